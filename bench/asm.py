@@ -1,6 +1,6 @@
 #!/usr/bin/env python3
-"""Measures `asm` on large sources: how long it takes, beside `cat` of the source and, where it is installed, GNU as
-for alpha; how many host instructions it takes a line, and how much memory a byte of the source, both beside what it takes
+"""Measures `asm` on large sources: how long it takes, beside `cat` of the source and, where it is installed, GNU as for
+alpha; how many host instructions it takes a line, and how much memory a byte of the source, both beside what it takes
 for a source of few such lines; and how the time grows with the number of lines. Of lines as people write them it says
 the host instructions alone, a row for each kind; so it does for each source that is named.
 
@@ -36,13 +36,19 @@ def written(*lines):
 WRITTEN = {
     "canonical lines with a comment": written(*(line + "  # why it is so" for line in LINES)),
     "canonical lines with a carriage return": written(*(line + "\r" for line in LINES)),
-    "blanks between operands": written("\taddq\t$1, $2, $3", "\tldq\t$1, -8($30)", "\tbis\t$31, 255, $31", "\tstq $1, 16( $30 )"),
-    "names of registers": written("addq $t0,$s1,$a0", "ldq $ra,8($sp)", "stq $fp,-16($sp)", "lda $sp,-32($sp)", "subq $v0,1,$t11", "bis $zero,$at,$gp"),
-    "pseudo-operations": written("mov $1,$2", "mov 5,$3", "mov -300,$4", "clr $5", "nop", "unop", "not $1,$2", "negq $1,$2", "negl/v $3,$4", "sextl $5,$6"),
-    "branches to labels": lambda count: "loop: nop\n" + written("br loop", "beq $1,loop", "bsr loop", "bne $t0, loop # again")(count - 1),
-    "halves of addresses": lambda count: "x: nop\n" + written("ldah $9,%hi(x)($31)", "lda $9,%lo(x)($9)", "ldah $9,%hi(x+8)($31)")(count - 1),
+    "blanks between operands": written("\taddq\t$1, $2, $3", "\tldq\t$1, -8($30)", "\tbis\t$31, 255, $31",
+                                       "\tstq $1, 16( $30 )"),
+    "names of registers": written("addq $t0,$s1,$a0", "ldq $ra,8($sp)", "stq $fp,-16($sp)", "lda $sp,-32($sp)",
+                                  "subq $v0,1,$t11", "bis $zero,$at,$gp"),
+    "pseudo-operations": written("mov $1,$2", "mov 5,$3", "mov -300,$4", "clr $5", "nop", "unop", "not $1,$2",
+                                 "negq $1,$2", "negl/v $3,$4", "sextl $5,$6"),
+    "branches to labels": lambda count: "loop: nop\n"
+    + written("br loop", "beq $1,loop", "bsr loop", "bne $t0, loop # again")(count - 1),
+    "halves of addresses": lambda count: "x: nop\n"
+    + written("ldah $9,%hi(x)($31)", "lda $9,%lo(x)($9)", "ldah $9,%hi(x+8)($31)")(count - 1),
     "jumps": written("ret", "ret $31,($26),1", "jsr $26,($27)", "jmp $31,($1),0", "jsr $ra,($pv)"),
-    "data of one value": lambda count: "ret\n.data\n" + written(".quad 5", ".quad 0x123456789abcdef", ".long -7", ".word 65535", ".byte 1")(count),
+    "data of one value": lambda count: "ret\n.data\n"
+    + written(".quad 5", ".quad 0x123456789abcdef", ".long -7", ".word 65535", ".byte 1")(count),
     "data of four bytes": lambda count: "ret\n.data\n" + written(".byte 1,2,3,4")(count),
     "addresses with an offset": lambda count: "x: ret\n.data\n" + written(".quad x+8")(count),
     "strings of twenty bytes": lambda count: "ret\n.data\n" + written('.ascii "abcdefghijklmnopqrst"')(count),
@@ -160,7 +166,8 @@ def measure(program, name, make, count, out, fewer=FEW):
 
 def measure_written(program, out):
     """The host instructions of lines as people write them."""
-    for name, make in {**WRITTEN, "mixed lines by hand": repeated(BY_HAND), "lines of a compiler": repeated(COMPILED)}.items():
+    for name, make in {**WRITTEN, "mixed lines by hand": repeated(BY_HAND),
+                       "lines of a compiler": repeated(COMPILED)}.items():
         contents, few = source(make(5 * FEW)), source(make(FEW))
         with file_of(contents) as file, file_of(few) as small:
             more = instructions([program, "asm", file.name, out]) - instructions([program, "asm", small.name, out])
@@ -174,7 +181,8 @@ def measure_sources(program, sources, out):
     for name in sources:
         with open(name, "rb") as file:
             lines = file.read().count(NEWLINE)
-        print(f"{name}: {lines} lines, {(instructions([program, 'asm', name, out]) - least) / lines:.1f} instructions a line")
+        print(f"{name}: {lines} lines, {(instructions([program, 'asm', name, out]) - least) / lines:.1f} instructions "
+              f"a line")
 
 
 def main():

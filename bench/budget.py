@@ -9,8 +9,8 @@ tables of docs/budget.md are written anew.
                                         nothing once more, at one job
 
 The gate takes what it has proved of the same files on this machine, and so does the table: what a call took stands in
-.budget.jsonl, with the sums of the crates that the run was of, and counts as long as a crate and those below it stay the
-same. So a run that was cut off, or one behind a change of a few crates, still gives the whole.
+.budget.jsonl, with the sums of the crates that the run was of, and counts as long as a crate and those below it stay
+the same. So a run that was cut off, or one behind a change of a few crates, still gives the whole.
 """
 import collections
 import json
@@ -60,7 +60,8 @@ def kind_of(words, folder):
 
 
 class Gate:
-    """The runs of the gate so far: the seconds of each crate by kind, and of each edit, and the most memory of a check."""
+    """The runs of the gate so far: the seconds of each crate by kind, and of each edit, and the most memory of a
+    check."""
 
     def __init__(self, rt):
         self.rt, self.crates = rt, rt.rtlib.crates_below(kit.TOP)
@@ -88,8 +89,8 @@ class Gate:
         return status
 
     def read(self, log):
-        """Takes in what all runs took, a later one in the place of an earlier one, part by part, and returns what the last
-        one did."""
+        """Takes in what all runs took, a later one in the place of an earlier one, part by part, and returns what the
+        last one did."""
         runs, sums = [], {}
         for line in map(json.loads, log):
             if isinstance(line, dict):
@@ -148,7 +149,8 @@ class Gate:
     def tables(self):
         whole = sum(self.seconds.values()) + self.beside
         rows = [(it.name, *self.columns(it.name), self.all_of(it.name)) for it in self.crates]
-        lines = [f"{whole / 60:.0f} processor minutes in all; the most memory of one check {self.memory / 1e6:.1f} GB.", "",
+        lines = [f"{whole / 60:.0f} processor minutes in all; the most memory of one check {self.memory / 1e6:.1f} GB.",
+                 "",
                  "| Crate | Proof | Edits | Tests and programs | All |",
                  "|---|---|---|---|---|"]
         lines += [f"| `{name}` | {' | '.join(f'{it / 60:.1f}' for it in parts)} |" for name, *parts in rows]
@@ -158,10 +160,12 @@ class Gate:
         tool = next(it for it in self.crates if it.name == "alpha_tool")
         chain = kit.longest_chain([*tool.below(), tool], lambda it: self.seconds[it.name, "proof"])
         minutes = [self.seconds[it.name, "proof"] / 60 for it in chain]
-        lines += [f"The longest chain of proofs, for which a first build waits at one job a crate, is {sum(minutes):.1f} minutes: "
+        lines += [f"The longest chain of proofs, for which a first build waits at one job a crate, is "
+                  f"{sum(minutes):.1f} minutes: "
                   + ", ".join(f"`{it.name}` {part:.1f}" for it, part in zip(chain, minutes)) + ".", "",
                   "| Dearest edits | Processor seconds |", "|---|---|"]
-        return lines + [f"| `{crate}`, `{edit}` | {seconds:.0f} |" for (crate, edit), seconds in self.edits.most_common(SHOWN)]
+        return (lines + [f"| `{crate}`, `{edit}` | {seconds:.0f} |"
+                         for (crate, edit), seconds in self.edits.most_common(SHOWN)])
 
 
 def machine():
@@ -186,8 +190,8 @@ def write(part, lines):
 
 
 def seconds_by_function(rt, crate, tests):
-    """The processor seconds of each function of a crate, as the prover ends with one after another at one job. What comes
-    before the first, as reading the crate, goes with it."""
+    """The processor seconds of each function of a crate, as the prover ends with one after another at one job. What
+    comes before the first, as reading the crate, goes with it."""
     words = [rt.rtlib.RATTLE, "check", *crate.words(["--jobs", "1"], tests=tests, keeps=False), "--progress"]
     tick, before, found = os.sysconf("SC_CLK_TCK"), 0.0, {}
     with subprocess.Popen([*rt.rtlib.guarded(), *words], cwd=crate.folder, stdin=subprocess.DEVNULL,
@@ -228,7 +232,8 @@ def main(words):
     status = gate.run()
     if status or gate.missing:
         print("\n".join(gate.tables()))
-        sys.exit("\n".join(["the gate failed, or was not measured whole: docs/budget.md stays as it was", *gate.missing]))
+        sys.exit("\n".join(["the gate failed, or was not measured whole: docs/budget.md stays as it was",
+                            *gate.missing]))
     write("gate", gate.tables())
 
 

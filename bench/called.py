@@ -1,5 +1,6 @@
-"""Calls of the program that are held to their whole answers, and told with their processor time and the most memory that
-they had. The system tells both for the child of a small process of Python, whose own 10 MB or so are the least that it tells.
+"""Calls of the program that are held to their whole answers, and told with their processor time and the most memory
+that they had. The system tells both for the child of a small process of Python, whose own 10 MB or so are the least
+that it tells.
 """
 import os
 import subprocess
@@ -38,14 +39,17 @@ class Calls:
         return kept
 
     def call(self, what, *words, status=0, out=b"", notes="", given=b"", keeps=None):
-        """Makes a call, and tells how it went: `keeps` is what OUT, the file `kept`, must have then, None where it isn't made."""
+        """Makes a call, and tells how it went: `keeps` is what OUT, the file `kept`, must have then, None where it
+        isn't made."""
         if os.path.exists(self.path("kept")):
             os.remove(self.path("kept"))
-        with open(self.path("out"), "wb") as to, open(self.path("notes"), "wb") as log, open(self.keep("given", given)) as source:
+        with open(self.path("out"), "wb") as to, open(self.path("notes"),
+                                                      "wb") as log, open(self.keep("given", given)) as source:
             measuring = [sys.executable, "-ISc", MEASURE, self.path("took"), self.program, *words]
             subprocess.run(measuring, stdin=source, stdout=to, stderr=log, check=True)
         ended, seconds, memory = self.read("took").split()
-        parts = [("status", int(ended), status), ("output", self.read("out"), out), ("notes", self.read("notes"), notes.encode()),
+        parts = [("status", int(ended), status), ("output", self.read("out"), out),
+                 ("notes", self.read("notes"), notes.encode()),
                  ("file", self.read("kept") if os.path.exists(self.path("kept")) else None, keeps)]
         wrong = [told(part, *both) for part, *both in parts if both[0] != both[1]]
         self.count, self.wrong = self.count + 1, self.wrong + bool(wrong)
@@ -59,5 +63,6 @@ def told(part, got, wanted):
     if isinstance(got, bytes) and isinstance(wanted, bytes):
         both = min(len(got), len(wanted))
         at = next((n for n in range(0, both, 64) if got[n:n + 64] != wanted[n:n + 64]), both)
-        return f"\n  {part}: {len(got)} bytes for {len(wanted)}, from {at} on {got[at:at + 64]!r} for {wanted[at:at + 64]!r}"
+        return (f"\n  {part}: {len(got)} bytes for {len(wanted)}, from {at} on {got[at:at + 64]!r} for "
+                f"{wanted[at:at + 64]!r}")
     return f"\n  {part}: {repr(got)[:64]} for {repr(wanted)[:64]}"

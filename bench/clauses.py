@@ -5,16 +5,18 @@ An edit of crates/NAME/must-fail begins with what it turns, a line each:
 
     # FUNCTION: CLAUSE, CLAUSE
 
-or `# FUNCTION` where the function's only clause has no name. A method is `TYPE::METHOD`. Mostly the function is public, and
-the edit may change what that function calls; where a trait says what a public method does, it is the private function below.
+or `# FUNCTION` where the function's only clause has no name. A method is `TYPE::METHOD`. Mostly the function is public,
+and the edit may change what that function calls; where a trait says what a public method does, it is the private
+function below.
 
-Each clause of a `pub fn` has such an edit, or a row of bench/edits/without.tsv says why it has none; and a row that no such
-clause needs is refused. Each edit, of bench/edits too, can be applied: its texts stand once in its files. What the prover says
-isn't asked here: `rt ci` has it refuse the edits of must-fail, bench/edits.py those of bench/edits.
+Each clause of a `pub fn` has such an edit, or a row of bench/edits/without.tsv says why it has none; and a row that no
+such clause needs is refused. Each edit, of bench/edits too, can be applied: its texts stand once in its files. What the
+prover says isn't asked here: `rt ci` has it refuse the edits of must-fail, bench/edits.py those of bench/edits.
 
     bench/clauses.py [--list]
 
-With `--list` each public clause is printed with its edits, or with why it has none. It ends with 1 where something is wrong.
+With `--list` each public clause is printed with its edits, or with why it has none. It ends with 1 where something is
+wrong.
 """
 import fnmatch
 import pathlib
@@ -43,8 +45,8 @@ def contract(lines, at, indent):
 
 
 def functions(crate):
-    """Each function of a crate that has a contract: its name, whether it is public, and the names of its clauses. The name of
-    a function's only clause may be empty."""
+    """Each function of a crate that has a contract: its name, whether it is public, and the names of its clauses. The
+    name of a function's only clause may be empty."""
     for file in sorted((crate / "src").rglob("*.rt")):
         lines, owner = file.read_text(encoding="utf-8").split("\n"), None
         for at, line in enumerate(lines):
@@ -93,7 +95,8 @@ def reason(rows, clause):
     """The first row that has a clause, with the clause's name in it, and why the clause has no edit."""
     crate, function, name = clause
     for row, (crates, owners, names, why) in enumerate(rows):
-        if fnmatch.fnmatchcase(crate, crates) and fnmatch.fnmatchcase(function, owners) and (names == "*" or name in names.split(", ")):
+        if (fnmatch.fnmatchcase(crate, crates) and fnmatch.fnmatchcase(function, owners)
+            and (names == "*" or name in names.split(", "))):
             return (row, "*" if names == "*" else name), why
     return None, None
 
@@ -121,7 +124,8 @@ def edits_by_clause(wrong):
             turns, path = list(turned(edit)), edit.relative_to(TOP)
             if not turns:
                 wrong.append(f"{path} doesn't say which clause it turns")
-            wrong.extend(f"{path}: {told((crate.name, *it))}: there is no such clause" for it in turns if it not in known)
+            wrong.extend(f"{path}: {told((crate.name, *it))}: there is no such clause" for it in turns
+                         if it not in known)
             for it in turns:
                 found.get((crate.name, *it), []).append(edit.stem)
     return found
@@ -130,7 +134,8 @@ def edits_by_clause(wrong):
 def check_edits(wrong):
     """Holds the texts of all edits against the sources, and returns how many edits the gate tries."""
     tried, others = sorted(TOP.glob("crates/*/must-fail/*.edit")), sorted(TOP.glob("bench/edits/*/*.edit"))
-    for edit, crate in [*((it, it.parent.parent) for it in tried), *((it, TOP / "crates" / it.parent.name) for it in others)]:
+    for edit, crate in [*((it, it.parent.parent) for it in tried),
+                        *((it, TOP / "crates" / it.parent.name) for it in others)]:
         text = misses(edit, crate)
         if text is not None:
             wrong.append(f"{edit.relative_to(TOP)}: its file doesn't have once: {text}")
@@ -152,7 +157,8 @@ def main():
             print(f"{told(clause)}: {why}")
     wrong.extend(f"bench/edits/without.tsv: no clause needs {it}" for it in unused(rows, used))
     count, with_edits = check_edits(wrong), sum(map(bool, clauses.values()))
-    print("\n".join(wrong) or f"{len(clauses)} public clauses: {with_edits} have one of {count} edits, the others a reason for none")
+    print("\n".join(wrong)
+          or f"{len(clauses)} public clauses: {with_edits} have one of {count} edits, the others a reason for none")
     sys.exit(1 if wrong else 0)
 
 

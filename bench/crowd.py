@@ -1,7 +1,7 @@
 #!/usr/bin/env python3
-"""Counts the host instructions of `asm`, `module`, `fix` and `link` for names that are chosen to be dear to look up, beside
-plain names of the same length, at 25,000, 50,000 and 100,000 of them. Of a source each line has a label and a branch to
-the next one; of `link` one module has all names as symbols.
+"""Counts the host instructions of `asm`, `module`, `fix` and `link` for names that are chosen to be dear to look up,
+beside plain names of the same length, at 25,000, 50,000 and 100,000 of them. Of a source each line has a label and a
+branch to the next one; of `link` one module has all names as symbols.
 
     bench/crowd.py [PROGRAM]     counts
     bench/crowd.py last [PROGRAM]   counts for names that are looked up in the last map alone
@@ -22,8 +22,8 @@ from measure import NOP, instructions, the_program
 COUNTS = (25_000, 50_000, 100_000)
 REFERENCES = 20_000
 SOME = string.ascii_letters + string.digits + "_"
-# With a factor of 1 the hash is the last eight bytes, but for a constant. Where their last four are alike too, all names
-# go one way through the first tree.
+# With a factor of 1 the hash is the last eight bytes, but for a constant. Where their last four are alike too, all
+# names go one way through the first tree.
 ONE_WAY = "crowd_0000100431kxd8Xp31"
 
 
@@ -87,8 +87,8 @@ def uses(names, used, count):
 
 
 def count_uses(program, folder, names, used):
-    """The host instructions of a branch and of a label line by `asm`, and of a symbol that one module names and another one
-    defines by `link`."""
+    """The host instructions of a branch and of a label line by `asm`, and of a symbol that one module names and another
+    one defines by `link`."""
     path, out = os.path.join(folder, "source"), os.path.join(folder, "out")
     counts = []
     for text in (source(names[:-len(used)]), source(names), uses(names, used, 1), uses(names, used, REFERENCES + 1)):
@@ -115,7 +115,8 @@ def last(program, folder):
     # The first of all has the one slot of the first tree.
     dear = [ONE_HASH + word for word in ["aaaaaaaa", *ON_THE_WAY, *LAST]]
     plain = NAMES["plain32"](len(dear))
-    counted = {name: count_uses(program, folder, names, names[-len(LAST):]) for name, names in (("plain", plain), ("last", dear))}
+    counted = {name: count_uses(program, folder, names, names[-len(LAST):])
+               for name, names in (("plain", plain), ("last", dear))}
     for what, each in counted["last"].items():
         print(f"{what}: {each:,.0f}, {each / counted['plain'][what]:.2f} times plain names")
 
@@ -139,7 +140,8 @@ def main():
                 taken[kind, number] = count(program, folder, kind, number)
                 rows = []
                 for command, each in taken[kind, number].items():
-                    times = f", {each / taken[PLAIN[kind], number][command]:.2f} times plain names" if kind in PLAIN else ""
+                    times = (f", {each / taken[PLAIN[kind], number][command]:.2f} times plain names" if kind in PLAIN
+                             else "")
                     rows.append(f"{command} {each:,.0f}{times}")
                 print(f"{number} names, {kind}: " + "; ".join(rows), flush=True)
 

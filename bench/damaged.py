@@ -1,8 +1,9 @@
 #!/usr/bin/env python3
-"""Feeds the companions with damaged files: ELF, ECOFF, archives, images, modules, sources, texts of a compiler, maps and journals,
-cut, with a hole behind them, or with other numbers and bytes. Each call must end within 10 seconds of the processor's time and 300 MB
-of memory, with a status that it has, without a traceback, and by status 1 with a line and without a file. Prints how
-often each status came, by kind of file, the most time and memory, and each call that did otherwise, with its file kept.
+"""Feeds the companions with damaged files: ELF, ECOFF, archives, images, modules, sources, texts of a compiler, maps
+and journals, cut, with a hole behind them, or with other numbers and bytes. Each call must end within 10 seconds of the
+processor's time and 300 MB of memory, with a status that it has, without a traceback, and by status 1 with a line and
+without a file. Prints how often each status came, by kind of file, the most time and memory, and each call that did
+otherwise, with its file kept.
 
     bench/damaged.py [PROGRAM] [COUNT] [SEED] [JOBS]    2,000 files, seed 1 and 2 jobs where they are left out
 """
@@ -25,14 +26,16 @@ KILLED, WAITED = 60, 3600
 STATUSES = {0, 1, 3, 5, 6, 7, 18, 19}
 DATA = os.path.join(COMPANIONS, "data")
 # Numbers that sizes, counts and offsets are made, as bytes.
-NUMBERS = [bytes(8), b"\xff" * 8, b"\xff" * 4, b"\xff" * 2, b"\0\0\0\x80", bytes(7) + b"\x80", b"\xff" * 7 + b"\x7f", b"\0\0\0\0\1\0\0\0",
+NUMBERS = [bytes(8), b"\xff" * 8, b"\xff" * 4, b"\xff" * 2, b"\0\0\0\x80", bytes(7) + b"\x80", b"\xff" * 7 + b"\x7f",
+           b"\0\0\0\0\1\0\0\0",
            b"\1", b"\0\0\x01", b"\xff\xff\xff\x0f", b"\x1b[2J\n", b"\0", b"\x7f"]
 # The calls that read each kind of file: FILE is the damaged one, OUT one to make, the others are whole.
 CALLS = {
     "elf": ["elf2image --functions FILE", "elf2image FILE OUT --map OUT.map", "elf2image --functions --all FILE"],
     "ecoff": ["elf2image --functions FILE", "elf2image FILE OUT"],
     "archive": ["elf2image --functions FILE"],
-    "image": ["allbroken FILE", "shadowmap FILE", "image2elf FILE OUT", "emulate run --steps 1000 FILE", "allbroken --sarif FILE"],
+    "image": ["allbroken FILE", "shadowmap FILE", "image2elf FILE OUT", "emulate run --steps 1000 FILE",
+              "allbroken --sarif FILE"],
     "module": ["allbroken FILE", "explain --module FILE link kind 2 first 0 second 1"],
     "source": ["allbroken --json FILE", "where --source FILE 10000", "shadowmap FILE", "shadowfix FILE -o OUT"],
     "text": ["gas2source FILE -o OUT", "gas2source --module FILE -o OUT", "shadowfix FILE -o OUT"],
@@ -45,7 +48,8 @@ CALLS = {
 def wholes(program, folder):
     """Whole files of each kind, and those that calls name beside the damaged one."""
     def companion(*words):
-        subprocess.run([sys.executable, os.path.join(COMPANIONS, words[0]), *words[1:]], check=True, env=os.environ | {"ALPHA": program})
+        subprocess.run([sys.executable, os.path.join(COMPANIONS, words[0]), *words[1:]], check=True,
+                       env=os.environ | {"ALPHA": program})
 
     def made(name):
         return os.path.join(folder, name)
@@ -60,7 +64,8 @@ def wholes(program, folder):
         archive += b"%-16s%-12d%-6d%-6d%-8s%-10d`\n" % (name.encode() + b"/", 0, 0, 0, b"644", len(content)) + content
     kinds = {"elf": [f"{DATA}/sum.elf", f"{DATA}/sort.elf", made("again.elf")], "ecoff": [f"{DATA}/sort.ecoff"],
              "image": [made("sort.img"), f"{TOP}/examples/accepted.img"], "module": [made("sum.mod")],
-             "source": [made("sum.as"), f"{TOP}/examples/segments.s"], "text": [f"{DATA}/sum.s", f"{DATA}/three/main.s"],
+             "source": [made("sum.as"), f"{TOP}/examples/segments.s"],
+             "text": [f"{DATA}/sum.s", f"{DATA}/three/main.s"],
              "map": [made("sort.map")], "journal": [f"{TOP}/examples/late.journal"]}
     found = {kind: [read(path) for path in paths] for kind, paths in kinds.items()} | {"archive": [archive]}
     return found, {"IMAGE": made("sort.img"), "RUN": made("late.img"), "SOURCE": made("sum.as")}
@@ -97,7 +102,8 @@ class Outcome:
 
 
 def called(words, program, folder):
-    """Calls a companion. `journal first` tells on its output what is wrong, the others on standard error why they refuse."""
+    """Calls a companion. `journal first` tells on its output what is wrong, the others on standard error why they
+    refuse."""
     notes_path, out = os.path.join(folder, "notes"), os.path.join(folder, "out")
     with open(notes_path, "wb") as notes, subprocess.Popen(
             ["timeout", "-s", "KILL", str(WAITED), "prlimit", f"--cpu={KILLED}",
@@ -109,7 +115,8 @@ def called(words, program, folder):
 
 
 def trial(number, seed, whole, named, program):
-    """One damaged file and one call that reads it: its kind, the call, the outcome, and the file's path where something is wrong."""
+    """One damaged file and one call that reads it: its kind, the call, the outcome, and the file's path where something
+    is wrong."""
     chosen = random.Random(f"{seed} {number}")
     kind = sorted(CALLS)[number % len(CALLS)]
     call = chosen.choice(CALLS[kind])
@@ -120,7 +127,8 @@ def trial(number, seed, whole, named, program):
             file.write(content)
         if hole:
             os.truncate(path, len(content) + hole)
-        words = [path if word == "FILE" else word.replace("OUT", os.path.join(folder, "out")) if word.startswith("OUT") else
+        words = [path if word == "FILE" else word.replace("OUT", os.path.join(folder, "out")) if word.startswith("OUT")
+                 else
                  named.get(word, word) for word in call.split()]
         outcome, kept = called(words, program, folder), None
         if outcome.wrong:
@@ -135,12 +143,14 @@ def main():
     statuses, worst, wrong = collections.defaultdict(collections.Counter), [0.0, 0.0], 0
     with tempfile.TemporaryDirectory() as folder, ThreadPoolExecutor(jobs) as pool:
         whole, named = wholes(program, folder)
-        for number, (kind, call, outcome, kept) in enumerate(pool.map(lambda n: trial(n, seed, whole, named, program), range(count)), 1):
+        for number, (kind, call, outcome,
+                     kept) in enumerate(pool.map(lambda n: trial(n, seed, whole, named, program), range(count)), 1):
             statuses[kind][outcome.status] += 1
             worst = [max(worst[0], outcome.seconds), max(worst[1], outcome.megabytes)]
             if outcome.wrong:
                 wrong += 1
-                print(f"{kept}: {call}: {outcome.wrong}: {outcome.seconds:.1f} s, {outcome.megabytes:.0f} MB", flush=True)
+                print(f"{kept}: {call}: {outcome.wrong}: {outcome.seconds:.1f} s, {outcome.megabytes:.0f} MB",
+                      flush=True)
             if number % 250 == 0 or number == count:
                 print(f"{number} files: at most {worst[0]:.1f} s and {worst[1]:.0f} MB; {wrong} wrong", flush=True)
     for kind, counts in sorted(statuses.items()):

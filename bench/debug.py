@@ -44,7 +44,8 @@ def main():
                 with file_of(script(line, size)) as lines:
                     print(f"{name}, {size} bytes: {best(command, 1, stdin=open(lines.name)):.0f} ms")
                     if counts_instructions():
-                        count = instructions(command, stdin=open(lines.name)) - instructions(command, stdin=open(empty.name))
+                        count = (instructions(command, stdin=open(lines.name))
+                                 - instructions(command, stdin=open(empty.name)))
                         print(f"{name}, {size} bytes: {count / size:.0f} instructions a byte")
     for blocks in (5_000, 20_000):
         trial = [program, "trial", str(blocks)]

@@ -1,7 +1,7 @@
 #!/usr/bin/env python3
-"""Tries the built program on devices that fail: OUT must be the old file or the whole new one after each, and the status
-must say which. Calls of the C library fail or are interrupted by a library that is loaded before the program, which
-takes a C compiler; some cases take root. What can't be tried here is told by a line and left out.
+"""Tries the built program on devices that fail: OUT must be the old file or the whole new one after each, and the
+status must say which. Calls of the C library fail or are interrupted by a library that is loaded before the program,
+which takes a C compiler; some cases take root. What can't be tried here is told by a line and left out.
 
     bench/devices.py [PROGRAM] [RUNS]    RUNS: how often the program is killed, 300 if left out
 """
@@ -51,7 +51,8 @@ def interrupted_calls(trial):
     """Every second read and write is interrupted: each answer is the same."""
     hello = os.path.join(TOP, "examples/factorial.img")
     script = b"step 3\nregs\ndis 0x10000 3\n"
-    calls = [(["dis", hello], b""), (["run", hello], b""), (["debug", hello], script), (["check", "/dev/stdin"], trial.read(hello)),
+    calls = [(["dis", hello], b""), (["run", hello], b""), (["debug", hello], script),
+             (["check", "/dev/stdin"], trial.read(hello)),
              (["run", "/dev/stdin"], trial.read(hello))]
     for words, given in calls:
         plain = trial.run(*words, input=given)
@@ -93,7 +94,8 @@ def kills(trial, runs):
         left += len(files)
         for file in files:
             os.remove(file)
-    print(f"{runs} kills: OUT was old {ends['old']} times and new {ends['new']} times; a new file was left {left} times")
+    print(f"{runs} kills: OUT was old {ends['old']} times and new {ends['new']} times; a new file was left {left} "
+          f"times")
 
 
 def limited_sizes(trial):
@@ -157,11 +159,14 @@ def permissions(trial):
     for path in (trial.folder, os.path.dirname(trial.program)):
         if user and subprocess.run(["test", "-x", path], preexec_fn=user).returncode:
             os.chmod(path, 0o755) if path == trial.folder else None
-    if user and subprocess.run([trial.program, "check", trial.source], preexec_fn=user, capture_output=True).returncode != 4:
+    if (user and subprocess.run([trial.program, "check", trial.source], preexec_fn=user, capture_output=True).returncode
+        != 4):
         return print("left out: permissions: another user can't run the program here")
-    trial.check("a folder that takes no file: OUT isn't written in place", kept(0o555, 0o644) == (0, trial.new, True, 0o644))
+    trial.check("a folder that takes no file: OUT isn't written in place",
+                kept(0o555, 0o644) == (0, trial.new, True, 0o644))
     trial.check("a file that may not be written", kept(0o755, 0o444) == (8, OLD, True, 0o444))
-    trial.check("modes", [kept(0o755, mode) for mode in (0o600, 0o666, 0o755)] == [(0, trial.new, False, mode) for mode in (0o600, 0o666, 0o755)])
+    trial.check("modes", [kept(0o755, mode) for mode in (0o600, 0o666, 0o755)]
+                == [(0, trial.new, False, mode) for mode in (0o600, 0o666, 0o755)])
     os.chmod(folder, 0o755)
     print("permissions: as the page says")
 
@@ -177,7 +182,8 @@ def links(trial):
         done = trial.asm(chain[1])
         trial.check_out("a symbolic link", done.returncode, old)
         trial.check("a symbolic link is none any more", all(os.path.islink(link) for link in chain))
-    trial.check(f"a new file is left beside a link: {os.listdir(trial.path('sub'))}", os.listdir(trial.path("sub")) == ["link"])
+    trial.check(f"a new file is left beside a link: {os.listdir(trial.path('sub'))}",
+                os.listdir(trial.path("sub")) == ["link"])
     trial.old_out()
     os.link(trial.out, trial.path("other"))
     trial.asm()
@@ -191,7 +197,8 @@ def no_files(trial):
     trial.old_out()
     with open(trial.out, "r+b") as file:
         done = subprocess.run([trial.program, "asm", trial.source, "/dev/stdout"], stdout=file)
-        trial.check("/dev/stdout, a file", (done.returncode, os.fstat(file.fileno()).st_ino) == (0, os.stat(trial.out).st_ino))
+        trial.check("/dev/stdout, a file",
+                    (done.returncode, os.fstat(file.fileno()).st_ino) == (0, os.stat(trial.out).st_ino))
     trial.check("/dev/stdout, a file: its bytes", trial.read(trial.out) == trial.new)
     trial.check("/dev/null", trial.asm("/dev/null").returncode == 0 and stat.S_ISCHR(os.stat("/dev/null").st_mode))
     trial.check("/dev/full", trial.asm("/dev/full").returncode == 8)
@@ -215,7 +222,8 @@ def same_names(trial):
     linked = trial.path("linked")
     first = trial.run("link", linked, *modules)
     second = trial.run("link", modules[0], *modules)
-    trial.check("OUT is a module", (first.returncode, second.returncode) == (0, 0) and trial.read(modules[0]) == trial.read(linked))
+    trial.check("OUT is a module",
+                (first.returncode, second.returncode) == (0, 0) and trial.read(modules[0]) == trial.read(linked))
     journal = trial.path("journal")
     with open(journal, "wb") as notes:
         status = subprocess.run([trial.program, "record", os.path.join(TOP, "examples/factorial.img"), journal],

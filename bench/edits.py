@@ -3,12 +3,13 @@
 crates/NAME/must-fail, at a clause that one of those turns too, or at the clause of a function that isn't public.
 
     bench/edits.py NAME ..              those of these crates
-    bench/edits.py --changed [COMMIT]   those of the crates that differ from the commit, else from HEAD, and of those above them
+    bench/edits.py --changed [COMMIT]   those of the crates that differ from the commit, else from HEAD, and of those
+                                        above them
     bench/edits.py --all                all of them: an hour and more of one processor
 
-They stand in bench/edits/NAME, and nothing says of which clause each is. It is `rt must-fail` itself, over the files here: it
-begins with what `rt check` kept, proves the crates below where nothing did, and doesn't try again what it has tried on this
-machine since anything changed. It ends with 1 where an edit isn't refused, or can't be applied.
+They stand in bench/edits/NAME, and nothing says of which clause each is. It is `rt must-fail` itself, over the files
+here: it begins with what `rt check` kept, proves the crates below where nothing did, and doesn't try again what it has
+tried on this machine since anything changed. It ends with 1 where an edit isn't refused, or can't be applied.
 """
 import os
 import pathlib
@@ -30,8 +31,10 @@ def edits_of(crate):
 
 def changed(crates, commit):
     """The crates of which a file differs from the commit, in the working tree or the index, and those above them."""
-    told = subprocess.run(["git", "diff", "--name-only", commit, "--", "crates", "bench/edits"], cwd=TOP, text=True, capture_output=True)
-    new = subprocess.run(["git", "ls-files", "--others", "--exclude-standard", "crates", "bench/edits"], cwd=TOP, text=True, capture_output=True)
+    told = subprocess.run(["git", "diff", "--name-only", commit, "--", "crates", "bench/edits"], cwd=TOP, text=True,
+                          capture_output=True)
+    new = subprocess.run(["git", "ls-files", "--others", "--exclude-standard", "crates", "bench/edits"], cwd=TOP,
+                         text=True, capture_output=True)
     if told.returncode:
         sys.exit(f"edits.py: {told.stderr.strip().splitlines()[0]}")
     files = (told.stdout + new.stdout).splitlines()

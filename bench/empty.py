@@ -1,12 +1,12 @@
 #!/usr/bin/env python3
-"""Lists the clauses that say nothing of the crates' own types: those over what a trait's types tell, where each of them tells
-nothing.
+"""Lists the clauses that say nothing of the crates' own types: those over what a trait's types tell, where each of them
+tells nothing.
 
     bench/empty.py
 
-A trait has ghosts that may be `None`, as what a device tells. Where each type of the crates that the program stands on leaves
-one so, a clause of a function over that trait which names it holds of nothing that is there. Such clauses are printed, and no
-page quotes one: it ends with 1 where one does.
+A trait has ghosts that may be `None`, as what a device tells. Where each type of the crates that the program stands on
+leaves one so, a clause of a function over that trait which names it holds of nothing that is there. Such clauses are
+printed, and no page quotes one: it ends with 1 where one does.
 """
 import pathlib
 import re
@@ -61,7 +61,8 @@ def told(files):
 
 def main():
     crates = {name: TOP / "crates" / name for name in product()}
-    files = {path: path.read_text(encoding="utf-8") for crate in crates.values() for path in sorted((crate / "src").rglob("*.rt"))}
+    files = {path: path.read_text(encoding="utf-8") for crate in crates.values()
+             for path in sorted((crate / "src").rglob("*.rt"))}
     empty = {key: types for key, types in told(files.values()).items() if not any(types.values())}
     found = []
     for path, text in files.items():
@@ -72,9 +73,11 @@ def main():
             for letter, trait in BOUND.findall(contract.partition("ensures")[0]):
                 for ghost in (ghost for of, ghost in empty if of == trait):
                     parts = re.split(r"\n\s*ensures ", contract)[1:]
-                    found += [(path, head.group(3), part.split()[0], trait, ghost) for part in parts if f"{letter}.{ghost} " in part]
+                    found += [(path, head.group(3), part.split()[0], trait, ghost) for part in parts
+                              if f"{letter}.{ghost} " in part]
     wrong = 0
-    pages = {page: page.read_text(encoding="utf-8") for page in [TOP / "README.md", *sorted((TOP / "docs").glob("*.md"))]}
+    pages = {page: page.read_text(encoding="utf-8")
+             for page in [TOP / "README.md", *sorted((TOP / "docs").glob("*.md"))]}
     for path, function, clause, trait, ghost in found:
         types = ", ".join(sorted(empty[trait, ghost]))
         print(f"{path.relative_to(TOP)}, {function}: {clause} says nothing of {types}, whose {trait}.{ghost} is None")

@@ -3,10 +3,11 @@
 
     bench/emptyroot.py ROOT [PROGRAM]     crates/alpha_tool/out/alpha_tool, where PROGRAM is left out
 
-ROOT is a folder with a base system, as `debootstrap --variant=minbase bookworm ROOT` makes it. With python3 in it, as by
-`--include=python3`, README.md's commands, the pages, the companions' tests and the suite for emulators are tried too, both
-unpacked and installed; without it, what companions say then. Where its C library is older than the program needs, what is
-said of that. Only root may do so; else it is skipped, and a line says so. What is put into ROOT is taken away again.
+ROOT is a folder with a base system, as `debootstrap --variant=minbase bookworm ROOT` makes it. With python3 in it, as
+by `--include=python3`, README.md's commands, the pages, the companions' tests and the suite for emulators are tried
+too, both unpacked and installed; without it, what companions say then. Where its C library is older than the program
+needs, what is said of that. Only root may do so; else it is skipped, and a line says so. What is put into ROOT is taken
+away again.
 """
 import os
 import shutil
@@ -26,7 +27,8 @@ import versions  # noqa: E402
 
 NOBODY = ["setpriv", "--reuid=65534", "--regid=65534", "--clear-groups", "--no-new-privs"]
 HOME = "/usr/lib/bantamtinsel"
-SUITE = '--run "{0} run --watch --steps {{steps}} --complete {{complete}} {{image}}" --follow "{0} replay {{image}} {{journal}}"'
+SUITE = ('--run "{0} run --watch --steps {{steps}} --complete {{complete}} {{image}}" --follow "{0} replay {{image}} '
+         '{{journal}}"')
 # Seconds that a script may take: the tests of the companions on a machine that others use too.
 LONGEST = 3600
 
@@ -41,7 +43,8 @@ class Root:
         """(status, output, notes) of a script of sh in that folder, of a user who may do nothing else, or of root."""
         words = ["unshare", "--mount", "--pid", "--kill-child", f"--mount-proc={self.path}/proc", "chroot", self.path]
         words += [*(NOBODY if user else []), "sh", "-c", f"cd {self.folder} && {script}"]
-        env = {"PATH": "/usr/local/sbin:/usr/local/bin:/usr/sbin:/usr/bin:/sbin:/bin", "HOME": self.folder, "LC_ALL": "C.UTF-8"}
+        env = {"PATH": "/usr/local/sbin:/usr/local/bin:/usr/sbin:/usr/bin:/sbin:/bin", "HOME": self.folder,
+               "LC_ALL": "C.UTF-8"}
         try:
             return call(words, env=env, timeout=LONGEST)
         except subprocess.TimeoutExpired:
@@ -58,10 +61,12 @@ def last(text):
 
 def try_bare(root, name, package):
     """What needs no Python."""
-    status, output, said = root.call(f"tar xf {name}-{archive.PLATFORM}.tar.gz && {name}/bin/alpha check {name}/examples/lost.img")
+    status, output, said = root.call(f"tar xf {name}-{archive.PLATFORM}.tar.gz && {name}/bin/alpha check "
+                                     f"{name}/examples/lost.img")
     show("two commands lead to the first verdict", (status, output, said) == (1, "", LOST), f" {said}")
     show("./alpha does so too", root.call(f"cd {name} && ./alpha check examples/lost.img") == (1, "", LOST))
-    show("and tells its version", root.call(f"cd {name} && ./alpha --version")[1].startswith(f"version {versions.version()}\ncommit "))
+    show("and tells its version",
+         root.call(f"cd {name} && ./alpha --version")[1].startswith(f"version {versions.version()}\ncommit "))
     status, _, said = root.call(f"dpkg -i {package}", user=False)
     show("the package can be installed", status == 0, f" {said}")
     show("its program is on the path", root.call(f"alpha check {HOME}/examples/lost.img") == (1, "", LOST))
@@ -89,7 +94,8 @@ def try_python(root, name):
 
 def try_old(root, name):
     """An older C library than the program needs."""
-    status, output, said = root.call(f"tar xf {name}-{archive.PLATFORM}.tar.gz && {name}/alpha check {name}/examples/lost.img")
+    status, output, said = root.call(f"tar xf {name}-{archive.PLATFORM}.tar.gz && {name}/alpha check "
+                                     f"{name}/examples/lost.img")
     show(f"an older C library: {said.strip()}", status == FAILED, output == "", "the program needs glibc" in said)
     status, output, said = root.call(f"{name}/install {root.folder}/prefix")
     show("there nothing is installed", status == FAILED, root.call("ls prefix")[0] != 0)

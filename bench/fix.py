@@ -1,6 +1,6 @@
 #!/usr/bin/env python3
-"""Measures `fix` on large sources beside `asm`: how long both take, how many host instructions `fix` takes a line, how much
-memory, and how the time grows with the number of lines.
+"""Measures `fix` on large sources beside `asm`: how long both take, how many host instructions `fix` takes a line, how
+much memory, and how the time grows with the number of lines.
 
     bench/fix.py [PROGRAM]
 """

@@ -30,22 +30,26 @@ LINES = {
     11: rb"too large \d+\n",
     12: rb"no memory\n",
 }
-LINES = {status: re.compile(rb"\A(overflow H\n)*".replace(b"H", HEXADECIMAL.encode()) + line.replace(b"H", HEXADECIMAL.encode()) + rb"\Z")
+LINES = {status: re.compile(rb"\A(overflow H\n)*".replace(b"H", HEXADECIMAL.encode())
+                            + line.replace(b"H", HEXADECIMAL.encode()) + rb"\Z")
          for status, line in LINES.items()}
-TOKENS = ["addq/v", "ldq", "stq", "br", "beq", "jsr", "ret", "trapb", "callsys", "mov", "lda", "ldah", "%hi", "%lo", "$1", "$31",
-          "$zero", "$99", ",", "(", ")", ":", "+", "-", "0", "1", "255", "256", "0x10000", "99999999999999999999", "x", "y",
-          "x:", ".", ".code", ".data", ".zero", ".align", ".byte", ".quad", ".ascii", ".entry", ".level", ".segment", ".stack",
-          '"a\\n"', '"', "#", "\t", "\\", "\x00", "é"]
-COMMANDS = ["step", "step 1", "step 5", "step 0", "step 1000001", "go", "barrier", "break 0x10004", "clear 0x10004", "break x",
-            "regs", "mem 0x10000 16", "mem 0x3ffffff0 32", "mem 0 257", "dis 0x10000 4", "dis 1 1", "shadow", "log", "quit x", "",
+TOKENS = ["addq/v", "ldq", "stq", "br", "beq", "jsr", "ret", "trapb", "callsys", "mov", "lda", "ldah", "%hi", "%lo",
+          "$1", "$31", "$zero", "$99", ",", "(", ")", ":", "+", "-", "0", "1", "255", "256", "0x10000",
+          "99999999999999999999", "x", "y", "x:", ".", ".code", ".data", ".zero", ".align", ".byte", ".quad", ".ascii",
+          ".entry", ".level", ".segment", ".stack", '"a\\n"', '"', "#", "\t", "\\", "\x00", "é"]
+COMMANDS = ["step", "step 1", "step 5", "step 0", "step 1000001", "go", "barrier", "break 0x10004", "clear 0x10004",
+            "break x",
+            "regs", "mem 0x10000 16", "mem 0x3ffffff0 32", "mem 0 257", "dis 0x10000 4", "dis 1 1", "shadow", "log",
+            "quit x", "",
             "  ", "?", "\x00", "x" * 1025]
 
 
 def words(random):
     """Mostly words of the instruction table, so that the images are read."""
-    some = [0x47FF041F, 0x63FF0000, 0x83, 0x40220C03, 0x40410C44, 0xA43E0000, 0xB43EFFF8, 0xC3E00001, 0xE4200002, 0x6BFA8001,
-            0x203F0001, 0x201F0001, 0x80, 0x4C220C05, 0xAC3EFFF0, 0xBC3EFFF0, 0x63FF0400]
-    return [random.choice(some) if random.random() < 0.98 else random.getrandbits(32) for _ in range(random.randrange(1, 40))]
+    some = [0x47FF041F, 0x63FF0000, 0x83, 0x40220C03, 0x40410C44, 0xA43E0000, 0xB43EFFF8, 0xC3E00001, 0xE4200002,
+            0x6BFA8001, 0x203F0001, 0x201F0001, 0x80, 0x4C220C05, 0xAC3EFFF0, 0xBC3EFFF0, 0x63FF0400]
+    return [random.choice(some) if random.random() < 0.98 else random.getrandbits(32)
+            for _ in range(random.randrange(1, 40))]
 
 
 def damaged(random):
@@ -63,7 +67,8 @@ def random_bytes(random):
 
 
 def source(random):
-    lines = [" ".join(random.choice(TOKENS) for _ in range(random.randrange(0, 6))) for _ in range(random.randrange(0, 12))]
+    lines = [" ".join(random.choice(TOKENS) for _ in range(random.randrange(0, 6)))
+             for _ in range(random.randrange(0, 12))]
     return ("\n".join(lines) + random.choice(["", "\n", "\n.entry 0x10000\n"])).encode()
 
 
@@ -94,7 +99,8 @@ def little_memory(program, folder):
             if answer not in (own, (12, b"", b"no memory\n"), (12, b"", b"")):
                 wrong += 1
                 print(f"{name}: with {kibibytes} KiB: status {answer[0]}, {answer[2][-200:]!r}")
-        print(f"{name} with little memory: " + ", ".join(f"status {status} {times} times" for status, times in sorted(seen.items())))
+        print(f"{name} with little memory: "
+              + ", ".join(f"status {status} {times} times" for status, times in sorted(seen.items())))
     return wrong
 
 

@@ -5,8 +5,8 @@
     bench/instructions.py --write       writes the page
 
 The page's tables are made here; what stands before the first of them stays as it is. Names, opcodes, functions and
-levels are read from the table's rows, in crates/alpha_table/src. What each instruction gives is said in bench/worked.py,
-in words and as a function of Python, which is held against the measured results of
+levels are read from the table's rows, in crates/alpha_table/src. What each instruction gives is said in
+bench/worked.py, in words and as a function of Python, which is held against the measured results of
 crates/alpha_vectors/data/values.tsv. The worked values are those of these functions.
 """
 import os
@@ -160,7 +160,8 @@ def source(w, level):
     cells = list(w.before.items())
     load = [f"ldq ${n},{0x100 + 8 * k}($28)" for k, (n, _) in enumerate(cells)]
     start = ["ldah $28,0x1000($31)"] + load + ["clr $28"] + list(w.first) + ["br here"]
-    data = [".byte " + ",".join(str(0x80 + n) for n in range(16)), ".align 8"] + [f".quad {value}" for _, value in cells]
+    data = ([".byte " + ",".join(str(0x80 + n) for n in range(16)), ".align 8"]
+            + [f".quad {value}" for _, value in cells])
     head = [".level 2", ".segment 0x10000000"] if level == 2 else [".data"]
     code = [".code", "here: " + w.line] + ["nop"] * 15 + ["start: " + start[0]] + start[1:] + [".entry start"]
     return "\n".join(head + data + code) + "\n"
@@ -249,7 +250,8 @@ def main():
             faults += [f"{name}: {fault}" for fault in faults_of(program, folder, w, rows[name])]
         for name in "amask", "implver":
             at_two = rows[name][:1] + (2,)
-            faults += [f"{name} at level 2: {fault}" for fault in faults_of(program, folder, operate_worked(name, 2), at_two)]
+            faults += [f"{name} at level 2: {fault}"
+                       for fault in faults_of(program, folder, operate_worked(name, 2), at_two)]
     print("\n".join(faults) if faults else f"{len(rows)} instructions are as the page says")
     sys.exit(1 if faults else 0)
 

@@ -1,4 +1,5 @@
-"""A folder in which the built program keeps files, and a library by which calls of the C library fail or are counted."""
+"""A folder in which the built program keeps files, and a library by which calls of the C library fail or are
+counted."""
 import contextlib
 import glob
 import os
@@ -7,8 +8,8 @@ import subprocess
 import sys
 
 # The CALL of each name fails with NUMBER at its turn COUNT, or at every second turn where COUNT is 0. COUNTED is the
-# file that gets, at the end, how often it was called. Where SECRET is there the call doesn't fail: just before it each new
-# file in FOLDER is swapped for a link to SECRET.
+# file that gets, at the end, how often it was called. Where SECRET is there the call doesn't fail: just before it each
+# new file in FOLDER is swapped for a link to SECRET.
 FAILING = r"""
 #define _GNU_SOURCE
 #include <dirent.h>
@@ -52,7 +53,8 @@ __attribute__((destructor)) static void told(void) {
 int getentropy(void *to, size_t n) { REAL(int, "getentropy"); return fails("getentropy") ? -1 : real(to, n); }
 int futimens(int fd, const struct timespec *to) { REAL(int, "futimens"); return fails("futimens") ? -1 : real(fd, to); }
 ssize_t read(int fd, void *to, size_t n) { REAL(ssize_t, "read"); return fails("read") ? -1 : real(fd, to, n); }
-ssize_t write(int fd, const void *from, size_t n) { REAL(ssize_t, "write"); return fails("write") ? -1 : real(fd, from, n); }
+ssize_t write(int fd, const void *from, size_t n) {
+    REAL(ssize_t, "write"); return fails("write") ? -1 : real(fd, from, n); }
 int fsync(int fd) { REAL(int, "fsync"); return fails("fsync") ? -1 : real(fd); }
 int fchmod(int fd, mode_t mode) { REAL(int, "fchmod"); return fails("fchmod") ? -1 : real(fd, mode); }
 int chown(const char *path, uid_t owner, gid_t group) {

@@ -1,9 +1,10 @@
-"""Names that reach the map in which `alpha_names` keeps what finds no slot in either of its trees, and the search for them.
+"""Names that reach the map in which `alpha_names` keeps what finds no slot in either of its trees, and the search for
+them.
 
-The names are those of `ONE_HASH` and eight letters. All have one quick hash, so one of them has the slot in the first tree.
-In the second one a name goes from the root that the highest 12 bits of its SipHash-1-3 choose down by the bits above the
-lowest 32, over 20 slots at most. A first name that shares so many of these bits with all others takes each of the 20 slots
-on one way; whatever shares 19 of them is then put into the map.
+The names are those of `ONE_HASH` and eight letters. All have one quick hash, so one of them has the slot in the first
+tree. In the second one a name goes from the root that the highest 12 bits of its SipHash-1-3 choose down by the bits
+above the lowest 32, over 20 slots at most. A first name that shares so many of these bits with all others takes each of
+the 20 slots on one way; whatever shares 19 of them is then put into the map.
 """
 import os
 import shutil
@@ -11,11 +12,13 @@ import subprocess
 import sys
 import tempfile
 
-# Names of 32 bytes that begin so have one quick hash: the third eight bytes are the state of the hasher behind the first
-# sixteen, so that what it multiplies next has a factor of 0.
+# Names of 32 bytes that begin so have one quick hash: the third eight bytes are the state of the hasher behind the
+# first sixteen, so that what it multiplies next has a factor of 0.
 ONE_HASH = "crowd_0000100431jxd8Xp31"
-# What `search` has found: one for each slot of the way on which all bits are 0, from the root on, and those for the map.
-ON_THE_WAY = ("uyijgaaa okbmraaa bwmxcbaa gvwwpdaa zwmzkeaa vabeggaa qvedqhaa nyppnjaa tnqbtjaa txfekkaa tcecklaa wpqdicaa "
+# What `search` has found: one for each slot of the way on which all bits are 0, from the root on, and those for the
+# map.
+ON_THE_WAY = ("uyijgaaa okbmraaa bwmxcbaa gvwwpdaa zwmzkeaa vabeggaa qvedqhaa nyppnjaa tnqbtjaa txfekkaa tcecklaa "
+              "wpqdicaa "
               "evxvoaaa tktxicaa wmzpfdaa xipgimaa dxgohuba fkhotsfa imnrjbba xkithxba").split()
 LAST = "bdqbfxmb xjaaqcob gljnuzyb pjvzckda vfgodjdb ifvdlfeb ozojkdzb karxgabc".split()
 # So many blocks of 676 names are searched: 2^34 of them, of which some ten share 19 bits and the root.

@@ -1,8 +1,8 @@
 #!/usr/bin/env python3
-"""Makes the largest things that the program's limits let through (docs/ARCHITECTURE.md has the table), and holds each call
-to its whole answer, and one more of each to its refusal. By every contract memory may run out in place of any answer, so a
-program that gave up early would be proved all the same: this shows that it doesn't. Each answer is worked here by the
-rules in docs/. Prints the processor time of each call, and the most memory that it had.
+"""Makes the largest things that the program's limits let through (docs/ARCHITECTURE.md has the table), and holds each
+call to its whole answer, and one more of each to its refusal. By every contract memory may run out in place of any
+answer, so a program that gave up early would be proved all the same: this shows that it doesn't. Each answer is worked
+here by the rules in docs/. Prints the processor time of each call, and the most memory that it had.
 
     bench/limits.py [PROGRAM]    two runs and a replay have a thousand million steps each
 """
@@ -41,11 +41,13 @@ REPORT = b"\3"
 
 def journal(items, count, given, put, ending=0):
     """Of a run that wraps, whose ending has the numbers 0 and 0."""
-    return struct.pack("<8sBBQQIII", b"ALPHAJR1", 0, ending, 0, 0, len(given), len(put), count) + given + put + b"".join(items)
+    return (struct.pack("<8sBBQQIII", b"ALPHAJR1", 0, ending, 0, 0, len(given), len(put), count) + given + put
+            + b"".join(items))
 
 
-# Takes all input up to a byte more than a journal may have, and puts as many bytes as it may have and so many more; then
-# there are so many overflows, each with its barrier, and steps without an end or an exit. Sixteen words stand before `again`.
+# Takes all input up to a byte more than a journal may have, and puts as many bytes as it may have and so many more;
+# then there are so many overflows, each with its barrier, and steps without an end or an exit. Sixteen words stand
+# before `again`.
 COPY = """
         .data
 buf:    .zero 8388609
@@ -82,7 +84,8 @@ def copying(turns, more=0, between="", end="on: br on"):
 
 
 def recorded(calls):
-    """One run whose journal is at all four limits, by the largest file of choices, and those that are past one of them."""
+    """One run whose journal is at all four limits, by the largest file of choices, and those that are past one of
+    them."""
     chance = random.Random(5)
     given, choices = chance.randbytes(INPUT), chance.randbytes(CHOICES)
     values = list(struct.unpack(f"<{CHOICES // 8}Q", choices)) + [0] * (TURNS - CHOICES // 8)
@@ -99,7 +102,8 @@ def recorded(calls):
     overflows = TURNS * OVERFLOW
     calls.call("a run at the four limits of journals", *record(file, UNITS), given=given, status=6, out=given,
                notes=overflows + "steps\n", keeps=whole)
-    calls.call("its replay", "replay", file, calls.keep("journal", whole), out=f"run units {UNITS} reports {TURNS}\n".encode())
+    calls.call("its replay", "replay", file, calls.keep("journal", whole),
+               out=f"run units {UNITS} reports {TURNS}\n".encode())
     for what, words, taken, put, notes in (
             ("a unit", record(file, UNITS + 1), given, given, overflows),
             ("an item", record(many, UNITS), given, given, overflows),
@@ -107,7 +111,8 @@ def recorded(calls):
             ("a byte of input", record(file, UNITS), given + b"x", b"", "")):
         calls.refuses(f"a run of {what} more", *words, given=taken, status=20, out=put, notes=notes + "journal full")
     longer = calls.keep("longer", choices + b"x")
-    calls.refuses("a file of choices with a byte more", *record(file, 1, longer), status=11, notes=f"too large {CHOICES}")
+    calls.refuses("a file of choices with a byte more", *record(file, 1, longer), status=11,
+                  notes=f"too large {CHOICES}")
     items[-1] = trigger(values[-1]) + REPORT + units(4 + rest)
     more_units = calls.keep("journal", journal(items, ITEMS, given, given))
     calls.refuses("a journal with a unit more", "replay", file, more_units, status=18, notes="journal kind 5 at 0")
@@ -125,25 +130,31 @@ def longest(calls):
     file = calls.made("waits", copying(len(waits), between="nop\n" * WAITED, end=end))
     whole = journal(items, ITEMS, given, given, 1)
     answer = f"run units {FRONT + len(waits) * (1 + last) + 3} reports {len(waits)}\n"
-    calls.call(f"the longest journal, {len(whole):,} bytes", "replay", file, calls.keep("journal", whole), out=answer.encode())
+    calls.call(f"the longest journal, {len(whole):,} bytes", "replay", file, calls.keep("journal", whole),
+               out=answer.encode())
     for what, other, notes in (
             ("an item more", journal(items + [REPORT], ITEMS + 1, given, given, 1), "kind 3 at 6"),
             ("a byte of input more", journal(items, ITEMS, given + b"x", given, 1), "kind 3 at 4"),
             ("a byte of output more", journal(items, ITEMS, given, given + b"x", 1), "kind 3 at 5"),
             ("as many bytes as its file may have", whole.ljust(JOURNAL, b"x"), f"kind 6 at {len(whole)}")):
-        calls.refuses(f"a journal with {what}", "replay", file, calls.keep("journal", other), status=18, notes=f"journal {notes}")
+        calls.refuses(f"a journal with {what}", "replay", file, calls.keep("journal", other), status=18,
+                      notes=f"journal {notes}")
     larger = calls.keep("journal", bytes(JOURNAL + 1))
-    calls.refuses("a journal whose file has a byte more", "replay", file, larger, status=11, notes=f"too large {JOURNAL}")
+    calls.refuses("a journal whose file has a byte more", "replay", file, larger, status=11,
+                  notes=f"too large {JOURNAL}")
 
 
 def waiting(calls):
-    """Journals of a trap that waits for as many words as it may, and for one more, which its code has before the barrier."""
-    file = calls.keep("image", image([lda(1, -1)[1], SRL[1], operate(0x10, 0x60, 1, 1, 4), *[NOP] * (WAITED + 1), TRAPB]))
+    """Journals of a trap that waits for as many words as it may, and for one more, which its code has before the
+    barrier."""
+    file = calls.keep("image",
+                      image([lda(1, -1)[1], SRL[1], operate(0x10, 0x60, 1, 1, 4), *[NOP] * (WAITED + 1), TRAPB]))
     most, more = ([units(2), trigger(0), *[wait(0)] * count, REPORT] for count in (WAITED, WAITED + 1))
     kept = calls.keep("journal", journal(most, len(most), b"", b""))
     calls.call("a trap that waits for the most words", "replay", file, kept, out=b"run units 3 reports 1\n")
     kept = calls.keep("journal", journal(more, len(more), b"", b""))
-    calls.refuses("one that waits for a word more", "replay", file, kept, status=19, notes=f"norun kind 1 at {WAITED + 2}")
+    calls.refuses("one that waits for a word more", "replay", file, kept, status=19,
+                  notes=f"norun kind 1 at {WAITED + 2}")
 
 
 # Modules.
@@ -161,12 +172,13 @@ def symbol(section, text, offset=0):
 
 def module(words, data, symbols, relocations=(), zeroed=0):
     numbers = struct.pack("<5I", len(words), len(data), zeroed, len(symbols), len(relocations))
-    return b"ALPHAOB1" + numbers + struct.pack(f"<{len(words)}I", *words) + data + b"".join(symbols) + b"".join(relocations)
+    return (b"ALPHAOB1" + numbers + struct.pack(f"<{len(words)}I", *words) + data + b"".join(symbols)
+            + b"".join(relocations))
 
 
 def part(number, words=EACH, data=SHARE, size=0):
-    """The module of a number of 64, whose last word is a branch to another one, and whose data begins with the address of that
-    one's. Names fill it up to its size."""
+    """The module of a number of 64, whose last word is a branch to another one, and whose data begins with the address
+    of that one's. Names fill it up to its size."""
     other = (7 * number + 3) % FILES
     own = {name(b"c", number): 0, name(b"d", number): 1}
     places = sorted({name(b"c", other): 2, name(b"d", other): 2, **own}.items())
@@ -200,17 +212,21 @@ def links(calls):
     calls.refuses("a link of a module more", *entry, *files, small, status=2, notes="words")
     for what, more, number in (("word", {"words": EACH + 1}, 3), ("data byte", {"data": SHARE + 1}, 4)):
         last = calls.keep("last", part(FILES - 1, **more))
-        calls.refuses(f"a link of a {what} more", *entry, *files[:-1], last, status=17, notes=f"link kind 4 first {number} second 0")
+        calls.refuses(f"a link of a {what} more", *entry, *files[:-1], last, status=17,
+                      notes=f"link kind 4 first {number} second 0")
     longer = calls.keep("last", part(0, size=MODULE + 1))
     calls.refuses("a module whose file has a byte more", *entry, longer, status=11, notes=f"too large {MODULE}")
     words, data, start = [NOP] * WORDS, b"\7" * DATA, [symbol(0, b"s" * NAME)]
     largest = calls.keep("last", module(words, data, start))
-    calls.call("a link of a module with all words and data", "link", "--entry", "s" * NAME, out, largest, keeps=image(words, data))
-    for what, other, fault in (("a name of a byte more", module(words, data, [symbol(0, b"s" * (NAME + 1))]), "kind 5 first 0"),
+    calls.call("a link of a module with all words and data", "link", "--entry", "s" * NAME, out, largest,
+               keeps=image(words, data))
+    for what, other, fault in (("a name of a byte more", module(words, data, [symbol(0, b"s" * (NAME + 1))]),
+                                "kind 5 first 0"),
                                ("a word more", module(words + [NOP], data, start), "kind 2 first 1"),
                                ("a data byte more", module(words, data + b"\7", start), "kind 2 first 2"),
                                ("a zeroed byte more", module(words, data, start, zeroed=1), "kind 2 first 3")):
-        calls.refuses(f"a module with {what}", "link", out, small, calls.keep("last", other), status=16, notes=f"module 1 {fault}")
+        calls.refuses(f"a module with {what}", "link", out, small, calls.keep("last", other), status=16,
+                      notes=f"module 1 {fault}")
 
 
 # Sources and images.
@@ -231,7 +247,8 @@ def ldah(to, number):
 
 def puts(share):
     """Lines and words that put 2 MiB of the data."""
-    return [lda(16, 1), ldah(17, (DATA_BASE + share * DATA // SHARES) >> 16), ldah(18, DATA // SHARES >> 16), lda(0, 4), CALL]
+    return [lda(16, 1), ldah(17, (DATA_BASE + share * DATA // SHARES) >> 16), ldah(18, DATA // SHARES >> 16), lda(0, 4),
+            CALL]
 
 
 BEFORE = [lda(1, -1), SRL, lda(2, 1)] + puts(0) + puts(1) + puts(2) + puts(3)
@@ -248,11 +265,13 @@ OVERFLOWS = "".join(f"overflow {BASE + 4 * (len(BEFORE) + n * len(LATE)):016x}\n
 def paddings(share, of):
     """Lines of a share of the data: each byte that isn't 0, and behind it zeros up to a multiple of 8,192."""
     size = len(BYTES) // of
-    return [line for at in range(share * size, (share + 1) * size, 8_192) for line in (f".byte {BYTES[at]}", ".align 13")]
+    return [line for at in range(share * size, (share + 1) * size, 8_192)
+            for line in (f".byte {BYTES[at]}", ".align 13")]
 
 
 def segments():
-    return [line for n in range(SHARES) for line in (f".segment {DATA_BASE + n * DATA // SHARES}", *paddings(n, SHARES))]
+    return [line for n in range(SHARES)
+            for line in (f".segment {DATA_BASE + n * DATA // SHARES}", *paddings(n, SHARES))]
 
 
 def padded(lines, size=SOURCE):
@@ -266,11 +285,13 @@ def padded(lines, size=SOURCE):
 
 
 def sources(calls):
-    """The source of the largest image by `asm` and `fix`, which leaves it as it is, and the same without segments by `module`."""
+    """The source of the largest image by `asm` and `fix`, which leaves it as it is, and the same without segments by
+    `module`."""
     out, front, behind, own = calls.path("kept"), [".level 2", *ENTRY], segments(), [".data", *paddings(0, 1)]
     whole, parted = front + LINES + behind, LINES + own
     # The last number is the field that a data byte more makes bad: one section has it, or all segments together.
-    for command, lines, keeps, field in (("asm", whole, level_image(IS, SHARES, BYTES), 5), ("fix", whole, padded(whole), 5),
+    for command, lines, keeps, field in (("asm", whole, level_image(IS, SHARES, BYTES), 5),
+                                         ("fix", whole, padded(whole), 5),
                                          ("module", parted, module(IS, BYTES, []), 4)):
         calls.call(f"{command} of the largest source", command, calls.keep("source", padded(lines)), out, keeps=keeps)
         at = lines.index(LINES[0])
@@ -280,18 +301,22 @@ def sources(calls):
                 ("a byte more in a line", padded(longer), 3, f"source kind 7 line {at + 1} column 0 detail 0"),
                 ("a word more", padded(lines[:at] + ["nop"] + lines[at:]), 3, "source kind 8 line 0 column 0 detail 3"),
                 ("a data byte more", padded(lines + [".byte 1"]), 3, f"source kind 8 line 0 column 0 detail {field}")):
-            calls.refuses(f"{command} of {what}", command, calls.keep("source", source), out, status=status, notes=notes)
+            calls.refuses(f"{command} of {what}", command, calls.keep("source", source), out, status=status,
+                          notes=notes)
 
 
 def barriers(calls):
     """A source that has as many words as an image may have, once it has its barriers: one for each pair."""
     pairs, out = ["addq/v $1,$2,$3", "ldq $4,0($3)"] * (WORDS // 3) + ["nop"], calls.path("kept")
     before = padded(pairs + ENTRY)
-    after = "".join("trapb\n" * line.startswith("ldq") + line for line in before.decode().splitlines(keepends=True)).encode()
+    after = "".join("trapb\n" * line.startswith("ldq") + line
+                    for line in before.decode().splitlines(keepends=True)).encode()
     assert len(pairs) + WORDS // 3 == WORDS
     calls.call("fix that adds the most barriers", "fix", calls.keep("source", before), out, keeps=after)
-    calls.refuses("asm of what it made", "asm", calls.keep("source", after), out, status=11, notes=f"too large {SOURCE}")
-    calls.refuses("fix that makes a word more", "fix", calls.keep("source", padded(pairs + ["nop"] + ENTRY)), out, status=15,
+    calls.refuses("asm of what it made", "asm", calls.keep("source", after), out, status=11,
+                  notes=f"too large {SOURCE}")
+    calls.refuses("fix that makes a word more", "fix", calls.keep("source", padded(pairs + ["nop"] + ENTRY)), out,
+                  status=15,
                   notes="far kind 8 line 0 column 0 detail 3")
 
 
@@ -307,8 +332,8 @@ def listing():
 
 
 def late_items():
-    """The items of its run by the largest file of choices, whose words all have 64 ones: each trap waits as long as it may, as
-    long as there are words. Behind them come zeros, by which it is reported at once."""
+    """The items of its run by the largest file of choices, whose words all have 64 ones: each trap waits as long as it
+    may, as long as there are words. Behind them come zeros, by which it is reported at once."""
     ones, left, items, straight = (1 << 64) - 1, CHOICES // 8, [units(len(BEFORE))], WAITED + 1
     for n in range(RUNS):
         value, left = (ones, left - 1) if left else (0, 0)
@@ -336,7 +361,8 @@ def images(calls):
     calls.call("replay", "replay", file, calls.keep("journal", kept), out=steps)
     stack = bytearray(image(IS, BYTES))
     struct.pack_into("<I", stack, 44, MEBIBYTE)
-    calls.call("check of all data in one segment, with the largest stack", "check", calls.keep("image", stack), out=b"accepted\n")
+    calls.call("check of all data in one segment, with the largest stack", "check", calls.keep("image", stack),
+               out=b"accepted\n")
     struct.pack_into("<I", stack, 44, MEBIBYTE + 16)
     zeroed = bytearray(contents)
     struct.pack_into("<I", zeroed, 40 + 12, 1)
@@ -345,8 +371,10 @@ def images(calls):
             ("more stack", stack, "kind 3 first 6 second 0"),
             ("a data byte more", image(IS, BYTES + b"x"), "kind 3 first 4 second 0"),
             ("a zeroed byte more", zeroed, "kind 3 first 5 second 0"),
-            ("a segment more", level_image(IS, SHARES + 1, BYTES[:(SHARES + 1) * MEBIBYTE]), "kind 3 first 10 second 0"),
-            ("as many bytes as its file may have", contents.ljust(IMAGE, b"x"), f"kind 4 first {IMAGE} second {len(contents)}")):
+            ("a segment more", level_image(IS, SHARES + 1, BYTES[:(SHARES + 1) * MEBIBYTE]),
+             "kind 3 first 10 second 0"),
+            ("as many bytes as its file may have", contents.ljust(IMAGE, b"x"),
+             f"kind 4 first {IMAGE} second {len(contents)}")):
         calls.refuses(f"an image with {what}", "check", calls.keep("image", other), status=4, notes=f"image {fault}")
     longer = calls.keep("image", bytes(IMAGE + 1))
     calls.refuses("an image whose file has a byte more", "check", longer, status=11, notes=f"too large {IMAGE}")
@@ -380,7 +408,8 @@ def debugs(calls):
     calls.call("the longest script", "debug", file, given=whole, out=answers)
     calls.call("the longest script that ends by quit, and bytes behind it", "debug", file,
                given=script.ljust(SCRIPT - 5, b"\n") + b"quit\n" + script, out=answers)
-    calls.refuses("a script of a byte more", "debug", file, given=whole + b"\n", status=11, out=answers, notes=f"too large {SCRIPT}")
+    calls.refuses("a script of a byte more", "debug", file, given=whole + b"\n", status=11, out=answers,
+                  notes=f"too large {SCRIPT}")
 
 
 def main():

@@ -1,6 +1,7 @@
 #!/usr/bin/env python3
-"""Measures `link` on many and on large modules: how many host instructions it takes a word beside what `asm` takes a line of
-the same source in one file, how much memory beside the image and the modules, and how both grow with the modules.
+"""Measures `link` on many and on large modules: how many host instructions it takes a word beside what `asm` takes a
+line of the same source in one file, how much memory beside the image and the modules, and how both grow with the
+modules.
 
     bench/link.py [PROGRAM]         counts and measures
     bench/link.py names [PROGRAM]   the memory for modules of short names alone
@@ -25,10 +26,12 @@ LATER = "." + string.digits + FIRST
 
 
 def lines(number, count):
-    """A module of WORDS words and 2 * LABELS symbols: each 52 words a label, with a branch to one of the next module."""
+    """A module of WORDS words and 2 * LABELS symbols: each 52 words a label, with a branch to one of the next
+    module."""
     start = "start:\n" if number == 0 else ""
     code = "".join(
-        f"m{number}_{n}: br m{(number + 1) % count}_{n}\n" + "addq $1,$2,$3\n" * (WORDS // LABELS - 1) for n in range(LABELS)
+        f"m{number}_{n}: br m{(number + 1) % count}_{n}\n" + "addq $1,$2,$3\n" * (WORDS // LABELS - 1)
+        for n in range(LABELS)
     )
     return start + code + "addq $1,$2,$3\n" * (WORDS - WORDS // LABELS * LABELS)
 
@@ -68,8 +71,8 @@ def letters(number, count):
 
 
 def names_of(size, count, number, undefined):
-    """A module of so many bytes, nearly all of them symbols of so many letters. The first of several has the entry, and a
-    symbol that isn't defined there where one is wanted."""
+    """A module of so many bytes, nearly all of them symbols of so many letters. The first of several has the entry, and
+    a symbol that isn't defined there where one is wanted."""
     many = (size - 64) // (7 + count)
     names = [(letters(number * many + n, count), 0) for n in range(many)]
     if number == 0:
@@ -166,7 +169,8 @@ def many_names_of(folder, files, size, count):
 
 
 def all_names(folder):
-    for files, size, size_of_three in ((1, 20 * MEBIBYTE, 2_000_000), (64, MEBIBYTE, 32_000), (16, 5 * MEBIBYTE, 128_000)):
+    for files, size, size_of_three in ((1, 20 * MEBIBYTE, 2_000_000), (64, MEBIBYTE, 32_000),
+                                       (16, 5 * MEBIBYTE, 128_000)):
         many_names_of(folder, files, size_of_three, 3)
         for count in (4, 5, 9):
             many_names_of(folder, files, size, count)
@@ -212,7 +216,8 @@ def main():
         for count in (4, 16, 64):
             many(folder, count)
         for size in (5, 20):
-            for make, kind in ((many_names, "most code and data"), (short_names, "short names"), (quadwords, "quadwords")):
+            for make, kind in ((many_names, "most code and data"), (short_names, "short names"),
+                               (quadwords, "quadwords")):
                 if make is many_names and size < 20:
                     continue
                 file = folder.keep("module", make(size * MEBIBYTE))

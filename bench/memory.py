@@ -15,7 +15,8 @@ from measure import TOP, the_program
 REFUSING = r"""
 #include <stddef.h>
 #include <stdlib.h>
-extern void *__libc_malloc(size_t), *__libc_realloc(void *, size_t), *__libc_calloc(size_t, size_t), *__libc_memalign(size_t, size_t);
+extern void *__libc_malloc(size_t), *__libc_realloc(void *, size_t);
+extern void *__libc_calloc(size_t, size_t), *__libc_memalign(size_t, size_t);
 static long left = -2;
 static int refused(void) {
     if (left == -2) left = getenv("REFUSED") ? atol(getenv("REFUSED")) : -1;
@@ -25,7 +26,8 @@ void *malloc(size_t n) { return refused() ? NULL : __libc_malloc(n); }
 void *realloc(void *p, size_t n) { return refused() ? NULL : __libc_realloc(p, n); }
 void *calloc(size_t k, size_t n) { return refused() ? NULL : __libc_calloc(k, n); }
 void *aligned_alloc(size_t a, size_t n) { return refused() ? NULL : __libc_memalign(a, n); }
-int posix_memalign(void **p, size_t a, size_t n) { return !(refused() ? 0 : (*p = __libc_memalign(a, n)) != NULL) * 12; }
+int posix_memalign(void **p, size_t a, size_t n) {
+    return !(refused() ? 0 : (*p = __libc_memalign(a, n)) != NULL) * 12; }
 """
 SCRIPT = b"step 3\ngo\nlog\nregs\n"
 MOST = 10_000

@@ -1,6 +1,6 @@
 #!/usr/bin/env python3
-"""Measures `module` on large sources: how many host instructions it takes a line beside `asm` of the same lines, how much
-memory a byte of the source, and how the time grows with the number of lines, of symbols and of relocations.
+"""Measures `module` on large sources: how many host instructions it takes a line beside `asm` of the same lines, how
+much memory a byte of the source, and how the time grows with the number of lines, of symbols and of relocations.
 
     bench/module.py [PROGRAM]
 """

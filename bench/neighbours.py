@@ -52,7 +52,8 @@ def kept(trial, what, out, folder, more=()):
     """Keeps OUT: it is the new one, and nothing else but it is in its folder."""
     done = trial.asm(out)
     trial.check(f"{what}: status {done.returncode}", done.returncode == 0 and trial.read(out) == trial.new)
-    trial.check(f"{what}: {sorted(os.listdir(folder))} are there", set(os.listdir(folder)) == {os.path.basename(out), *more})
+    trial.check(f"{what}: {sorted(os.listdir(folder))} are there",
+                set(os.listdir(folder)) == {os.path.basename(out), *more})
 
 
 def taken_names(trial):
@@ -81,7 +82,8 @@ def other_owners(trial):
 
 
 def swaps(trial):
-    """Just before each call the new file is swapped for a link to a private file of root, which must stay what it is."""
+    """Just before each call the new file is swapped for a link to a private file of root, which must stay what it
+    is."""
     if not trial.library:
         return print("left out: swapped names: there is no C compiler")
     folder, out = folder_of(trial, "swaps", 0o777)
@@ -93,7 +95,8 @@ def swaps(trial):
                 put(out, OLD, mode, owner)
                 trial.asm(out, env={**trial.failing(call, count, 0), "SECRET": secret, "FOLDER": folder})
                 found = os.stat(secret)
-                same = (found.st_uid, found.st_gid, stat.S_IMODE(found.st_mode)) == (0, 0, 0o600) and trial.read(secret) == OLD
+                same = ((found.st_uid, found.st_gid, stat.S_IMODE(found.st_mode)) == (0, 0, 0o600)
+                        and trial.read(secret) == OLD)
                 trial.check(f"a private file of root was given away at {call} {count}", same)
                 for name in os.listdir(folder):
                     os.remove(os.path.join(folder, name))
@@ -121,7 +124,8 @@ def access_lists(trial):
                 before = access(out)
                 what = f"mode {mode:o} with {entries} in a folder with {default}"
                 kept(trial, what, out, folder)
-                more = {(user, how) for user, how in access(out) - before if not os.stat(out).st_mode & {"r": 4, "w": 2}[how]}
+                more = {(user, how) for user, how in access(out) - before
+                        if not os.stat(out).st_mode & {"r": 4, "w": 2}[how]}
                 trial.check(f"{what}: {sorted(more)} may do more", not more)
                 os.remove(out)
     print("access lists: nobody got more, but where a list denies what all may")
@@ -147,7 +151,8 @@ def stored(trial):
             done = trial.asm(out)
             shutil.copy(disk, copy)
             with cut_off(trial, copy) as there:
-                trial.check("a loss of power: OUT isn't the new one", (done.returncode, trial.read(os.path.join(there, "out"))) == (0, trial.new))
+                trial.check("a loss of power: OUT isn't the new one",
+                            (done.returncode, trial.read(os.path.join(there, "out"))) == (0, trial.new))
     finally:
         subprocess.run(["umount", folder], check=True)
     print("a loss of power behind status 0: OUT was new")
@@ -204,14 +209,16 @@ def long_names(trial):
             name = "./" * ((length - 3) // 2) + "/" * ((length - 3) % 2) + "out"
             for _ in range(2):
                 done = trial.asm(name)
-                trial.check(f"a name of {length} bytes: status {done.returncode}", done.returncode == 0 and trial.read(out) == trial.new)
+                trial.check(f"a name of {length} bytes: status {done.returncode}",
+                            done.returncode == 0 and trial.read(out) == trial.new)
                 put(out, OLD)
             os.remove(out)
         for number in range(LINKS):
             os.symlink(f"link{number + 1}" if number + 1 < LINKS else "out", f"link{number}")
         for _ in range(2):
             done = trial.asm("link0")
-            trial.check(f"{LINKS} links: status {done.returncode}", done.returncode == 0 and trial.read(out) == trial.new)
+            trial.check(f"{LINKS} links: status {done.returncode}",
+                        done.returncode == 0 and trial.read(out) == trial.new)
     finally:
         os.chdir(here)
     trial.check("long names: a new file is left", len(os.listdir(folder)) == LINKS + 1)
@@ -226,11 +233,13 @@ def streams(trial):
         put(notes, b"", 0o640)
         with open(notes, "r+b") as file:
             where = {"stdout": subprocess.DEVNULL, "stderr": subprocess.DEVNULL, ("stdout", "stderr")[stream - 1]: file}
-            status = subprocess.run([trial.program, "record", image, name], stdin=subprocess.DEVNULL, **where).returncode
+            status = subprocess.run([trial.program, "record", image, name], stdin=subprocess.DEVNULL,
+                                    **where).returncode
         trial.check(f"record to {name}, a stream: status {status}", status == 8)
         trial.check(f"record to {name}, a stream: a journal in it", not trial.read(notes).startswith(b"ALPHA"))
     piped = trial.run("record", image, "/dev/stderr", stdin=subprocess.DEVNULL)
-    trial.check("record to /dev/stderr, a pipe", piped.returncode == 8 and piped.stderr.endswith(b"shelf\n") and b"ALPHA" not in piped.stderr)
+    trial.check("record to /dev/stderr, a pipe",
+                piped.returncode == 8 and piped.stderr.endswith(b"shelf\n") and b"ALPHA" not in piped.stderr)
     done = trial.run("record", image, "/dev/null", stdin=subprocess.DEVNULL)
     trial.check("record to /dev/null", done.returncode == 0)
     print("record to a stream: refused")
@@ -247,8 +256,10 @@ def small_stack(trial):
     parts = [trial.path(name) for name in ("total.mod", "sum.mod", "put.mod")]
     for part in parts:
         trial.run("module", os.path.join(TOP, "examples/modules", os.path.basename(part).replace(".mod", ".s")), part)
-    for words in (["asm", trial.source, out], ["fix", trial.source, out], ["module", source, module], ["link", out, *parts],
-                  ["record", image, out], ["run", image], ["run", "--imprecise", image], ["debug", image], ["dis", image], ["check", image]):
+    for words in (["asm", trial.source, out], ["fix", trial.source, out], ["module", source, module],
+                  ["link", out, *parts],
+                  ["record", image, out], ["run", image], ["run", "--imprecise", image], ["debug", image],
+                  ["dis", image], ["check", image]):
         most = MOST_STACK_OF_DEBUG if words[0] == "debug" else MOST_STACK
         done = trial.run(*words, stdin=subprocess.DEVNULL, preexec_fn=limited(most))
         trial.check(f"{words[0]} with {most} KiB of stack: status {done.returncode}", done.returncode == 0)
@@ -261,7 +272,8 @@ def all_cases(trial):
     streams(trial)
     small_stack(trial)
     if os.geteuid():
-        return print("left out: other users, access lists, mounts, a loss of power, append-only folders: they take root")
+        return print("left out: other users, access lists, mounts, a loss of power, append-only folders: they take "
+                     "root")
     os.chmod(trial.folder, 0o755)
     for case in (other_owners, swaps, access_lists, stored, mounted, append_only):
         case(trial)

@@ -1,6 +1,7 @@
 #!/usr/bin/env python3
-"""Counts what options of gcc do to the verdicts of one corpus, the C programs of companions/data: for each option and each level of
-optimization, how many /V words are broken, of how many, and how many `trapb` the compiler wrote. The texts are judged as modules.
+"""Counts what options of gcc do to the verdicts of one corpus, the C programs of companions/data: for each option and
+each level of optimization, how many /V words are broken, of how many, and how many `trapb` the compiler wrote. The
+texts are judged as modules.
 
     bench/options.py [PROGRAM]
 """
@@ -24,7 +25,8 @@ COUNTED = re.compile(r"^(\d+) of (\d+) /V words are broken$", re.M)
 
 
 def companion(program, *words):
-    done = subprocess.run([sys.executable, os.path.join(COMPANIONS, words[0]), *words[1:]], capture_output=True, text=True, check=False,
+    done = subprocess.run([sys.executable, os.path.join(COMPANIONS, words[0]), *words[1:]], capture_output=True,
+                          text=True, check=False,
                           env=os.environ | {"ALPHA": program})
     if done.returncode not in (0, 3):
         sys.exit(f"options: {' '.join(words)}: {done.stderr}")
@@ -36,7 +38,8 @@ def counts(program, options, level, path):
     with tempfile.TemporaryDirectory() as folder:
         text, source = os.path.join(folder, "a.s"), os.path.join(folder, "a.as")
         flags, _, repair = options.partition(", then ")
-        subprocess.run(["alpha-linux-gnu-gcc", level, *flags.split(), *COMMON, path, "-o", text], check=True, capture_output=True)
+        subprocess.run(["alpha-linux-gnu-gcc", level, *flags.split(), *COMMON, path, "-o", text], check=True,
+                       capture_output=True)
         if repair:
             companion(program, repair, text, "-o", text)
         with open(text, encoding="utf-8") as file:
@@ -51,7 +54,8 @@ def main():
     if shutil.which("alpha-linux-gnu-gcc") is None:
         sys.exit("options: there is no alpha-linux-gnu-gcc on the path")
     paths = sorted(glob.glob(f"{COMPANIONS}/data/*.c") + glob.glob(f"{COMPANIONS}/data/three/*.c"))
-    print(subprocess.run(["alpha-linux-gnu-gcc", "--version"], capture_output=True, text=True, check=True).stdout.splitlines()[0])
+    print(subprocess.run(["alpha-linux-gnu-gcc", "--version"], capture_output=True, text=True,
+                         check=True).stdout.splitlines()[0])
     print(f"{len(paths)} programs; broken of all /V words, and barriers\n")
     print(f"| Options | {' | '.join(LEVELS)} |\n|{'---|' * (1 + len(LEVELS))}")
     with ThreadPoolExecutor(2) as pool:

@@ -1,11 +1,11 @@
 #!/usr/bin/env python3
 """Holds the pages (README.md and its like at the top, docs/, examples/) against the program and the repository:
 
-- Each `console` block is run, and what its commands write and how they end must be what the block shows. A line that begins
-  with `$ ` is a command, one with `> ` goes on with it, all others are what it writes, standard error among it; `..` alone
-  on a line stands for any lines. A command ends with status 0, or with that of its last line, as `broken ..` has 1, unless
-  `$ echo $?` follows, which shows it. The commands of a page share a folder that has the repository's files, so that a page
-  may write files and go on with them.
+- Each `console` block is run, and what its commands write and how they end must be what the block shows. A line that
+  begins with `$ ` is a command, one with `> ` goes on with it, all others are what it writes, standard error among it;
+  `..` alone on a line stands for any lines. A command ends with status 0, or with that of its last line, as `broken ..`
+  has 1, unless `$ echo $?` follows, which shows it. The commands of a page share a folder that has the repository's
+  files, so that a page may write files and go on with them.
 - Each link leads to a file, and to a heading of it. Each path, file name and law in a code span exists.
 
 Blocks that can't be run, as builds, have another language (`sh`, or none).
@@ -56,7 +56,8 @@ FILE = re.compile(r"[\w*-]+\.(rt|antt|py|md|edit)")
 
 
 class Page:
-    """The lines of a page outside its blocks, each with its number, and its blocks: number, words of the head, lines."""
+    """The lines of a page outside its blocks, each with its number, and its blocks: number, words of the head,
+    lines."""
 
     def __init__(self, path):
         self.path, self.lines, self.blocks, block = path, [], [], None
@@ -102,8 +103,10 @@ def commands_in(block):
 
 def run_block(commands, folder):
     """What each command of a block wrote and its status, from one shell."""
-    script = "".join(f"{command}\nstatus=$?; printf '\\036%d\\n' $status; (exit $status)\n" for _, command, _ in commands)
-    with subprocess.Popen(["sh", "-c", script], cwd=folder, stdin=subprocess.DEVNULL, stdout=subprocess.PIPE, stderr=subprocess.STDOUT,
+    script = "".join(f"{command}\nstatus=$?; printf '\\036%d\\n' $status; (exit $status)\n"
+                     for _, command, _ in commands)
+    with subprocess.Popen(["sh", "-c", script], cwd=folder, stdin=subprocess.DEVNULL, stdout=subprocess.PIPE,
+                          stderr=subprocess.STDOUT,
                           text=True, errors="replace", start_new_session=True) as shell:
         try:
             ran = shell.communicate(timeout=SECONDS)[0]
@@ -202,7 +205,8 @@ def hold_paths(page, crates, counts):
 
 def crates_in():
     """What code spans may name: the folders at the top, the crates and their laws."""
-    text = "".join(open(file, encoding="utf-8").read() for file in glob.glob(f"{TOP}/crates/*/src/**/*.rt", recursive=True))
+    text = "".join(open(file, encoding="utf-8").read()
+                   for file in glob.glob(f"{TOP}/crates/*/src/**/*.rt", recursive=True))
     top = [it for it in os.listdir(TOP) if os.path.isdir(f"{TOP}/{it}") and it != ".git"]
     return {"top": top, "names": os.listdir(f"{TOP}/crates"), "laws": set(re.findall(rf"\bfn ({LAW.pattern})", text))}
 
@@ -221,7 +225,8 @@ def main():
         hold_links(page, pages, counts)
         hold_paths(page, crates, counts)
         hold_blocks(page, program, counts)
-    print(f"{len(words) or len(pages)} pages, {counts.commands} commands, {counts.links} links, {counts.paths} paths: {counts.wrong} wrong")
+    print(f"{len(words) or len(pages)} pages, {counts.commands} commands, {counts.links} links, {counts.paths} paths: "
+          f"{counts.wrong} wrong")
     sys.exit(bool(counts.wrong))
 
 

@@ -1,8 +1,8 @@
 """Random C programs with much signed arithmetic, each made from a number: what bench/repairs.py repairs.
 
-A program prints numbers and ends. Values are held small by masks and shifts, so that few programs end by an overflow. They have
-functions of one to eight parameters, static and global, some called through pointers or by themselves; loops, `switch`, early
-returns, arrays of all sizes, structures, and arrays in the stack whose size is known only there.
+A program prints numbers and ends. Values are held small by masks and shifts, so that few programs end by an overflow.
+They have functions of one to eight parameters, static and global, some called through pointers or by themselves; loops,
+`switch`, early returns, arrays of all sizes, structures, and arrays in the stack whose size is known only there.
 """
 import random
 
@@ -25,7 +25,8 @@ class Made:
     def text(self):
         self.lines.append('#include "io.h"')
         for name, type_ in ARRAYS.items():
-            values = ", ".join(str(self.random.randrange(-(1 << KEPT[type_] - 2), 1 << KEPT[type_] - 2)) for _ in range(SIZE))
+            values = ", ".join(str(self.random.randrange(-(1 << KEPT[type_] - 2), 1 << KEPT[type_] - 2))
+                               for _ in range(SIZE))
             self.lines.append(f"static {type_} {name}[{SIZE}] = {{{values}}};")
         self.lines.append(f"struct pair {{ int first; long second; short third; }} pairs[{SIZE}];")
         for _ in range(self.random.choice((1, 2, 2, 3, 4, 6))):
@@ -42,7 +43,8 @@ class Made:
 
     def function(self):
         name, type_ = self.fresh("f"), self.random.choice(("int", "long"))
-        parameters = [(self.fresh("p"), self.random.choice(("int", "long", "long", "short"))) for _ in range(self.random.randrange(1, 9))]
+        parameters = [(self.fresh("p"), self.random.choice(("int", "long", "long", "short")))
+                      for _ in range(self.random.randrange(1, 9))]
         kind = self.random.choice(("", "static ", "static __attribute__((noinline)) ", "__attribute__((noinline)) "))
         body = Body(self, dict(parameters), type_)
         self.lines.append(f"{kind}{type_} {name}({', '.join(f'{kind} {name}' for name, kind in parameters)})")
@@ -57,22 +59,28 @@ class Made:
         self.functions.append((name, type_, [kind for _, kind in parameters]))
 
     def main(self):
-        pointers = [one for one in self.functions if one[2] == self.functions[-1][2] and one[1] == self.functions[-1][1]]
+        pointers = [one for one in self.functions
+                    if one[2] == self.functions[-1][2] and one[1] == self.functions[-1][1]]
         self.lines += ["int main(void)", "{", "    long total = 0;", "    int round;"]
         if self.has_pointers:
             last = self.functions[-1]
-            self.lines.append(f"    static {last[1]} (*const volatile table[])({', '.join(last[2])}) = {{{', '.join(one[0] for one in pointers)}}};")
+            self.lines.append(f"    static {last[1]} (*const volatile table[])({', '.join(last[2])}) = "
+                              f"{{{', '.join(one[0] for one in pointers)}}};")
         self.lines.append(f"    for (round = 0; round < {self.random.randrange(1, 6)}; round++) {{")
         for name, type_, parameters in self.functions:
-            arguments = ", ".join(f"{self.random.randrange(-99, 99)} + round * {self.random.randrange(1, 30)}" for _ in parameters)
+            arguments = ", ".join(f"{self.random.randrange(-99, 99)} + round * {self.random.randrange(1, 30)}"
+                                  for _ in parameters)
             self.lines.append(f"        total = (total + {name}({arguments})) & 0xffffffffff;")
             if self.has_pointers and name == self.functions[-1][0]:
-                self.lines.append(f"        total = (total ^ table[round % {len(pointers)}]({arguments})) & 0xffffffffff;")
+                self.lines.append(f"        total = (total ^ table[round % {len(pointers)}]({arguments})) & "
+                                  f"0xffffffffff;")
             self.lines.append("        print(total, '\\n');")
         self.lines.append("    }")
         for name in ARRAYS:
-            self.lines.append(f"    for (round = 0; round < {SIZE}; round++) total = (total * 31 + {name}[round]) & 0xffffffffff;")
-        self.lines += [f"    for (round = 0; round < {SIZE}; round++) total = (total * 31 + pairs[round].first + pairs[round].second) & 0xffffffffff;",
+            self.lines.append(f"    for (round = 0; round < {SIZE}; round++) total = (total * 31 + {name}[round]) & "
+                              f"0xffffffffff;")
+        self.lines += [f"    for (round = 0; round < {SIZE}; round++) total = (total * 31 + pairs[round].first + "
+                       f"pairs[round].second) & 0xffffffffff;",
                        "    print(total, '\\n');", "    return total & 63;", "}"]
 
 
@@ -130,7 +138,8 @@ class Body:
         return f"room[{self.index()}]", "long"
 
     def field(self):
-        return self.random.choice((("pairs[%s].first", "int"), ("pairs[%s].second", "long"), ("pairs[%s].third", "short")))[0] % self.index(), "short"
+        return (self.random.choice((("pairs[%s].first", "int"), ("pairs[%s].second", "long"),
+                                    ("pairs[%s].third", "short")))[0] % self.index(), "short")
 
     def index(self):
         return f"{self.variable()[0]} & {SIZE - 1}" if self.made.chance(0.7) else str(self.random.randrange(SIZE))
@@ -144,7 +153,8 @@ class Body:
 
     def loop(self, margin):
         name = self.made.fresh("i")
-        front = f"{margin}for (int {name} = {self.random.randrange(4)}; {name} < {self.random.randrange(2, 9)}; {name}{self.random.choice(('++', ' += 2'))}) {{"
+        front = (f"{margin}for (int {name} = {self.random.randrange(4)}; {name} < {self.random.randrange(2, 9)}; "
+                 f"{name}{self.random.choice(('++', ' += 2'))}) {{")
         self.names[name] = "int"
         self.constants.add(name)
         found = [front, *self.block(margin)]
@@ -234,7 +244,8 @@ class Body:
         if bits < 63 and self.made.chance(0.6):
             return f"((long){one[0]} {operator} {other[0]})", bits, "long"
         masks = min(TYPES[kind] // 2 - 1, one[1]), min(TYPES[kind] // 2 - 1, other[1])
-        return f"(({one[0]} & {(1 << masks[0]) - 1}) {operator} ({other[0]} & {(1 << masks[1]) - 1}))", sum(masks) + 1, kind
+        return (f"(({one[0]} & {(1 << masks[0]) - 1}) {operator} ({other[0]} & {(1 << masks[1]) - 1}))", sum(masks) + 1,
+                kind)
 
     def quotient(self, depth):
         one, other = self.expression(depth - 1), self.expression(0)

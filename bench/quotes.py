@@ -6,11 +6,13 @@
   fact or type that a quoted clause names stands where the first lines of its file say; and each row of a table of
   clauses says how much its clause reaches: of definitions, of clap, and of types of the code (bench/reading.py).
 - Each clause of `alpha_top` is named on one of the two. Each law that a page names is a function of some crate.
-- Of docs/theorems.md: the reading order has just the files of definitions that its clauses reach, each with those of the
-  clauses that reach it (how many of its lines were run is held by bench/definitions/check.py), and each name of a quoted clause is in one of them; each promise of the
-  table from claim to clause begins with words of README.md, and its clauses are there; each must-fail edit is there.
+- Of docs/theorems.md: the reading order has just the files of definitions that its clauses reach, each with those of
+  the clauses that reach it (how many of its lines were run is held by bench/definitions/check.py), and each name of a
+  quoted clause is in one of them; each promise of the table from claim to clause begins with words of README.md, and
+  its clauses are there; each must-fail edit is there.
 - Of docs/ARCHITECTURE.md: the constants and definitions that the table of limits names have its numbers; each file that
   another table names is in the crate of its row, and has the names that it is said to have.
+- Of all crates: what bench/names.py says of the names that they declare.
 
     bench/quotes.py [--write]
 
@@ -23,6 +25,7 @@ import re
 import sys
 
 import reading
+from names import check as check_declared
 
 TOP = pathlib.Path(__file__).resolve().parent.parent
 THEOREMS = TOP / "docs" / "theorems.md"
@@ -34,12 +37,14 @@ ORDERED = re.compile(r"^\| `(crates/\S+\.antt)` \| (\S+) \| ([^|\n]*) \|", re.M)
 PROMISED = re.compile(r"^\| ([^|\n]+) \| ([^|\n]+) \| [^|\n]+ \|$", re.M)
 LIMIT = re.compile(r"^\| ([^|\n]+) \| ([^|\n]+) \| ([^|\n]+) \| ([^|\n]+) \|$", re.M)
 # Tables of files in docs/ARCHITECTURE.md.
-MAPS = ("Where to find what", "One call from end to end", "Where effects happen", "Adding an instruction", "Adding a statement")
+MAPS = ("Where to find what", "One call from end to end", "Where effects happen", "Adding an instruction",
+        "Adding a statement")
 ROW = re.compile(r"^\| (.+) \|$", re.M)
 # A file with the name in front of it, and those in parentheses behind it.
 PLACED = re.compile(r"(?:`(\w+)` of )?`([\w/]+\.(?:rt|antt))`(?: \(((?:`\w+`(?:, )?)+)\))?")
 CITED = re.compile(r"((?:`\w+`(?:, | and ))*`\w+`) of `(\w+)` of `(alpha_\w+)`")
-REACHED = re.compile(r"^\| `(\w+)` of `(\w+)` of `(alpha_\w+)`([^|\n]*) \| ([\d,]+ lines of \d+ files) \| ([^|\n]*) \| ([^|\n]*) \| ([^|\n]*) \|$", re.M)
+REACHED = re.compile(r"^\| `(\w+)` of `(\w+)` of `(alpha_\w+)`([^|\n]*) \| ([\d,]+ lines of \d+ files)"
+                     r" \| ([^|\n]*) \| ([^|\n]*) \| ([^|\n]*) \|$", re.M)
 CLAUSE = re.compile(r"ensures (\w+) \{")
 # What the language itself has.
 BUILT_IN = {("", name) for name in ("Type", "Unit", "Result", "Option")}
@@ -169,7 +174,8 @@ def check_names(page, text, order, wrong):
 def check_cited(page, text, wrong):
     for names, function, crate in CITED.findall(text):
         there, *_ = clauses(crate, function)
-        wrong.extend(f"{page}: {function} of {crate} has no clause {name}" for name in re.findall(r"\w+", names.replace(" and ", " "))
+        wrong.extend(f"{page}: {function} of {crate} has no clause {name}"
+                     for name in re.findall(r"\w+", names.replace(" and ", " "))
                      if name not in there)
 
 
@@ -181,7 +187,8 @@ def functions():
 
 
 def check_claims(text, readme, wrong):
-    """Holds the table from claim to clause: a function without a crate is of alpha_cmd, a clause without one of alpha_top."""
+    """Holds the table from claim to clause: a function without a crate is of alpha_cmd, a clause without one of
+    alpha_top."""
     section = text.split("\n## From claim to clause\n", 1)[1].split("\n## ", 1)[0]
     for promise, cell in PROMISED.findall(section)[1:]:
         if promise not in readme:
@@ -231,12 +238,13 @@ def check_limits(text, wrong):
                          if name and not re.search(rf"\b{name}\b", source))
             whole = "".join(source for _, _, source in sources)
             wrong.extend(f"{limit}: {', '.join(path.name for path, _ in named)} has no {number}"
-                         for number in re.findall(r"\d[\d,]*", numbers) if not has_number(whole, int(number.replace(",", ""))))
+                         for number in re.findall(r"\d[\d,]*", numbers)
+                         if not has_number(whole, int(number.replace(",", ""))))
 
 
 def check_row(row, wrong):
-    """Holds the files of a row. A path without a crate is of the crate of the row, which stands in its second cell, or of that
-    of the path before it; a name without a folder is of the folder of the path before it."""
+    """Holds the files of a row. A path without a crate is of the crate of the row, which stands in its second cell, or
+    of that of the path before it; a name without a folder is of the folder of the path before it."""
     owner = re.match(r"[^|]+ \| `(alpha_\w+)` \|", row)
     crate, folder = owner.group(1) if owner else "", ""
     for name, path, others in PLACED.findall(row):
@@ -282,8 +290,10 @@ def main():
                          if not (TOP / "crates" / crate / "must-fail" / f"{edit}.edit").exists())
         if write and new != text:
             page.write_text(new)
+    check_declared(wrong)
     named = "".join(page.read_text() for page in (THEOREMS, PROMISES))
-    wrong.extend(f"no page names the clause {name} of alpha_top" for name in clauses("alpha_cmd", "alpha_top")[0] if f"`{name}`" not in named)
+    wrong.extend(f"no page names the clause {name} of alpha_top" for name in clauses("alpha_cmd", "alpha_top")[0]
+                 if f"`{name}`" not in named)
     print("\n".join(wrong) or "the pages say what the sources say")
     sys.exit(1 if wrong else 0)
 

@@ -42,7 +42,8 @@ def path_of(module):
 
 
 def type_of(module):
-    """The crate, file and name of the type `Rattle.CRATE.specs.declared.A.TYPE`, or None where it is none of the repository's."""
+    """The crate, file and name of the type `Rattle.CRATE.specs.declared.A.TYPE`, or None where it is none of the
+    repository's."""
     crate, _, path = module.removeprefix("Rattle.").partition(".specs.declared.")
     *modules, name = [part for part in path.split(".") if part not in ("TheVariants", "TheInside")] or [""]
     file = ROOT / crate / "src" / ("/".join(modules or ["lib"]) + ".rt")
@@ -208,7 +209,8 @@ def main():
     if len(words) < 2:
         raise SystemExit(__doc__)
     if CLAP is None:
-        raise SystemExit("reading.py: the kit's command rt isn't on the path, so the definitions of clap can't be counted")
+        raise SystemExit("reading.py: the kit's command rt isn't on the path, so the definitions of clap can't be "
+                         "counted")
     crate, function, *wanted = words
     rows, names, modules = clauses(crate, function)
     for name, text in rows:
@@ -216,14 +218,16 @@ def main():
             continue
         counts = Counts(text, names, modules)
         by_names, by_files, clap, types = counts.told()
-        print(f"{name}: {by_names} by names, {by_files} by whole files; {clap} lines of clap, {types} types of the code")
+        print(f"{name}: {by_names} by names, {by_files} by whole files; {clap} lines of clap, {types} types of the "
+              f"code")
         if "--files" in sys.argv:
             for file, lines in sorted((counts.own | counts.clap).items(), key=lambda row: -row[1]):
                 path = file.path.relative_to(ROOT) if file.is_own else f"clap/specs/{file.path.name}"
                 print(f"    {lines:5} of {len(file.body):5}  {path}")
             for (file, name), lines in sorted(counts.types.items(), key=lambda row: -row[1]):
                 print(f"    {lines:5} of a type  {file.relative_to(ROOT)}, {name}")
-    print("Counted: the repository's definitions, those of the kit's crate clap, and the types of the code; nothing else of the kit.")
+    print("Counted: the repository's definitions, those of the kit's crate clap, and the types of the code; nothing "
+          "else of the kit.")
 
 
 if __name__ == "__main__":

@@ -1,11 +1,11 @@
 #!/usr/bin/env python3
-"""Makes a trial of an archive and of a Debian package by a program, and tries them: the commands of README.md, damages, other
-machines, a machine without Python, `./install`, and what tools/release refuses and tells of others.
+"""Makes a trial of an archive and of a Debian package by a program, and tries them: the commands of README.md, damages,
+other machines, a machine without Python, `./install`, and what tools/release refuses and tells of others.
 
     bench/release.py [PROGRAM] [--all]     crates/alpha_tool/out/alpha_tool, where it is left out
 
-With --all lintian looks at the package too, and tools/release --verify makes both anew in a clone, which take longer. What
-needs git, dpkg-deb, lintian, groff or a tree without changes is skipped where that is missing, and a line says so.
+With --all lintian looks at the package too, and tools/release --verify makes both anew in a clone, which take longer.
+What needs git, dpkg-deb, lintian, groff or a tree without changes is skipped where that is missing, and a line says so.
 bench/emptyroot.py tries both in roots that have nothing of this machine.
 """
 import contextlib
@@ -97,14 +97,19 @@ def try_alpha(room, top, bare):
          (0, f"version {said['version']}\ncommit {said['commit']}\nkit {said['kit']}\nprogram proved\n", ""),
          said["version"] == versions.version(), said["program"] == archive.sum_of(read(f"{top}/bin/alpha")))
     status, output, told = call([f"{top}/bin/alpha-where", "10000"], env=bare)
-    show("a companion says that it needs Python", status == FAILED, output == "", told.startswith("alpha-where: python3 is missing"))
+    show("a companion says that it needs Python", status == FAILED, output == "",
+         told.startswith("alpha-where: python3 is missing"))
     status, output, told = call([f"{top}/bin/alpha-explain", "--status", "2"])
     show("with it a companion of that name runs", status == 0, "words" in output, told == "")
-    for command, answer, line in (("uname", "Linux aarch64", "the program is one for Linux on x86-64, and this is Linux aarch64"),
-                                  ("getconf", "glibc 2.4", f"the program needs {said['needs']} or later, and here is glibc 2.4"),
-                                  ("getconf", "undefined", f"the program needs {said['needs']} or later, and here is another C library")):
+    for command, answer, line in (("uname", "Linux aarch64",
+                                   "the program is one for Linux on x86-64, and this is Linux aarch64"),
+                                  ("getconf", "glibc 2.4",
+                                   f"the program needs {said['needs']} or later, and here is glibc 2.4"),
+                                  ("getconf", "undefined",
+                                   f"the program needs {said['needs']} or later, and here is another C library")):
         other = with_command(room, bare, command, answer)
-        show(f"where {command} says {answer} the program isn't tried", call(check, env=other) == (FAILED, "", f"alpha: {line}\n"))
+        show(f"where {command} says {answer} the program isn't tried",
+             call(check, env=other) == (FAILED, "", f"alpha: {line}\n"))
     try_damages(room, top, bare)
 
 
@@ -131,18 +136,22 @@ def try_install(room, top, bare):
     status, _, told = call([install, "a prefix"], env=bare, cwd=room)
     after = listing(prefix)
     show("./install needs no Python, and installs by a relative name with a space", status == 0, told == "",
-         after["bin/alpha"][1] == read(f"{top}/bin/alpha"), "lib/bantamtinsel/PROVED" in after, "share/man/man1/alpha.1" in after,
+         after["bin/alpha"][1] == read(f"{top}/bin/alpha"), "lib/bantamtinsel/PROVED" in after,
+         "share/man/man1/alpha.1" in after,
          {mode for mode, _ in after.values()} <= {0o644, 0o755}, not any("__pycache__" in it for it in after))
     env = {**os.environ, "PATH": f"{prefix}/bin:{os.environ['PATH']}"}
-    show("program and companions are on the path", call(["alpha", "check", f"{top}/examples/lost.img"], env=env) == (1, "", LOST),
+    show("program and companions are on the path",
+         call(["alpha", "check", f"{top}/examples/lost.img"], env=env) == (1, "", LOST),
          "words" in call(["alpha-explain", "--status", "2"], env=env, cwd=room)[1])
     try_others_files(prefix, install)
     try_upgrade(prefix, top, install)
     status, _, told = call([install, "--uninstall", prefix], env=bare)
-    show("--uninstall leaves what was there", status == 0, told == "", listing(prefix) == before, os.listdir(prefix) == ["bin"])
+    show("--uninstall leaves what was there", status == 0, told == "", listing(prefix) == before,
+         os.listdir(prefix) == ["bin"])
     show("there is nothing more then", call([install, "--uninstall", prefix])[0] == 1)
     show("a clone isn't installed", call([f"{TOP}/install", prefix])[0] == 1, listing(prefix) == before)
-    show("nor is an archive installed into itself", call([install, f"{top}/here"])[0] == 1, not os.path.exists(f"{top}/here"))
+    show("nor is an archive installed into itself", call([install, f"{top}/here"])[0] == 1,
+         not os.path.exists(f"{top}/here"))
 
 
 def try_others_files(prefix, install):
@@ -152,14 +161,17 @@ def try_others_files(prefix, install):
     write(manual, "changed")
     is_now = listing(prefix)
     status, _, told = call([install, prefix])
-    show("a changed file isn't replaced, nor anything else", status == 1, f"{manual} is there" in told, listing(prefix) == is_now)
+    show("a changed file isn't replaced, nor anything else", status == 1, f"{manual} is there" in told,
+         listing(prefix) == is_now)
     list_of_all = read(f"{prefix}/lib/bantamtinsel/installed").decode()
     for line in ("/etc/passwd", "bin/../../other", "lib/other"):
         write(f"{prefix}/lib/bantamtinsel/installed", f"{'0' * 64}  {line}\n")
-        show(f"a list with {line} isn't followed", call([install, "--uninstall", prefix])[0] == 1, os.path.exists(f"{prefix}/bin/alpha"))
+        show(f"a list with {line} isn't followed", call([install, "--uninstall", prefix])[0] == 1,
+             os.path.exists(f"{prefix}/bin/alpha"))
     write(f"{prefix}/lib/bantamtinsel/installed", list_of_all)
     status, _, told = call([install, "--uninstall", prefix])
-    show("nor is it taken away", status == 0, f"{manual} was changed since, and stays" in told, read(manual) == b"changed",
+    show("nor is it taken away", status == 0, f"{manual} was changed since, and stays" in told,
+         read(manual) == b"changed",
          not os.path.exists(f"{prefix}/bin/alpha"))
     status, _, told = call([install, prefix])
     show("nor is it replaced as a file of somebody else", status == 1, not os.path.exists(f"{prefix}/lib"))
@@ -196,10 +208,12 @@ def try_completions(top):
          completed(script, "alpha", "run", "--complete", "=", "w") == ["wrap"],
          completed(script, "alpha", "run", "--complete", "=") == ["wrap", "saturate", "stop"],
          completed(script, "alpha", "check", "x") == [])
-    texts = [read(f"{top}/share/{it}").decode() for it in ("zsh/site-functions/_alpha", "fish/vendor_completions.d/alpha.fish")]
+    texts = [read(f"{top}/share/{it}").decode()
+             for it in ("zsh/site-functions/_alpha", "fish/vendor_completions.d/alpha.fish")]
     names = {it.name for it in completions.commands()}
     show("zsh and fish have all commands and options", len(names) == 11, all(f"'{it}:" in texts[0] for it in names),
-         all(f" -a {it} " in texts[1] for it in names), all("--force" in texts[0] and "-l force" in texts[1] for _ in [0]))
+         all(f" -a {it} " in texts[1] for it in names),
+         all("--force" in texts[0] and "-l force" in texts[1] for _ in [0]))
 
 
 def try_manuals(top):
@@ -222,8 +236,10 @@ def try_package(top, path):
         return
     members = verified.members(path, debian.unpacked(path))
     there = {name.removeprefix("./usr/"): content for name, told, content in members if told[0] == tarfile.REGTYPE}
-    inside = {it.removeprefix("lib/bantamtinsel/"): content for it, content in there.items() if it.startswith("lib/bantamtinsel/")}
-    show("the package has the archive's files", there["bin/alpha"] == read(f"{top}/bin/alpha"), len(inside) > 600, "PROVED" in inside,
+    inside = {it.removeprefix("lib/bantamtinsel/"): content for it, content in there.items()
+              if it.startswith("lib/bantamtinsel/")}
+    show("the package has the archive's files", there["bin/alpha"] == read(f"{top}/bin/alpha"), len(inside) > 600,
+         "PROVED" in inside,
          all(content == read(f"{top}/{it}") for it, content in inside.items()))
 
 
@@ -239,13 +255,15 @@ def try_refusals(room, program):
     """What tools/release makes no archive of."""
     def refused(what, line, *words):
         status, output, told = call([*RELEASE, "-o", f"{room}/refused", *words])
-        show(f"no archive is made {what}", status == 1, output == "", line in told, not os.path.exists(f"{room}/refused"), f" {told}")
+        show(f"no archive is made {what}", status == 1, output == "", line in told,
+             not os.path.exists(f"{room}/refused"), f" {told}")
 
     with_path = f"{room}/with_path"
     shutil.copy(program, with_path)
     with open(with_path, "ab") as file:
         file.write(f"\0{TOP}/crates\0".encode())
-    refused("of a program that has a path of this machine in it", f"bin/alpha has {TOP} in it", "--trial", "--program", with_path)
+    refused("of a program that has a path of this machine in it", f"bin/alpha has {TOP} in it", "--trial", "--program",
+            with_path)
     write(f"{room}/text", "no program")
     refused("of what is no program of the kit", "names no glibc", "--trial", "--program", f"{room}/text")
     refused("without a record", ".ci/run leaves it", "--program", program, "--gate", f"{room}/none")
@@ -255,7 +273,8 @@ def try_refusals(room, program):
     record = record_of(program)
     for word in ("commit", "sources", "program", "gate"):
         line = "how the gate ended" if word == "gate" else f"with {word} "
-        text = "".join(f"{it} {'0' * 40 if it == word else value}\n" for it, value in record.items() if (it, word) != ("gate", "gate"))
+        text = "".join(f"{it} {'0' * 40 if it == word else value}\n" for it, value in record.items()
+                       if (it, word) != ("gate", "gate"))
         write(f"{room}/record", text)
         refused(f"by a record with another {word}", line, "--program", program, "--gate", f"{room}/record")
 
@@ -266,7 +285,8 @@ def is_clean():
 
 def record_of(program):
     """What a record of this tree and this program says."""
-    return {"commit": archive.of_shell("commit", "."), "sources": archive.of_shell("sum_of_sources").split()[0], "kit": "some kit",
+    return {"commit": archive.of_shell("commit", "."), "sources": archive.of_shell("sum_of_sources").split()[0],
+            "kit": "some kit",
             "program": archive.sum_of(read(program)), "gate": "rt ci: 5 passed, 0 failed"}
 
 
@@ -299,13 +319,17 @@ def try_comparison(room):
     link = tarfile.TarInfo("name/bin/alpha")
     link.type, link.linkname = tarfile.SYMTYPE, "/bin/sh"
     changes = [
-        ("a page says something else", lambda rows: ((it, data.upper() if it.name == "name/README.md" else data) for it, data in rows),
+        ("a page says something else",
+         lambda rows: ((it, data.upper() if it.name == "name/README.md" else data) for it, data in rows),
          "name/README.md: other bytes"),
         ("the program would run as its owner", with_mode(0o4755), "name/bin/alpha: other modes, owners or times"),
-        ("a second program stands behind the first", lambda rows: [*rows, (link, b"")], "name/bin/alpha: 2 there, 1 here"),
+        ("a second program stands behind the first", lambda rows: [*rows, (link, b"")],
+         "name/bin/alpha: 2 there, 1 here"),
         ("a file is missing", lambda rows: rows[:-1], "name/share/last: 0 there, 1 here"),
-        ("many are more", lambda rows: [*rows, *((tarfile.TarInfo(f"name/{it}"), b"") for it in range(30))], "and 10 more"),
-        ("the order is another one", lambda rows: [rows[0], *rows[:0:-1]], "the files are in another order, or something is beside them"),
+        ("many are more", lambda rows: [*rows, *((tarfile.TarInfo(f"name/{it}"), b"") for it in range(30))],
+         "and 10 more"),
+        ("the order is another one", lambda rows: [rows[0], *rows[:0:-1]],
+         "the files are in another order, or something is beside them"),
     ]
     for what, change, line in changes:
         status, text = compared(path, archive.compressed(rewritten(whole, change)))
@@ -334,7 +358,8 @@ def try_no_archives(room, program):
         file.write(archive.compressed(archive.packed("bantamtinsel-5", {"PROVED": (False, b"commit none\n")}, 0)))
     for name in ("none", "cut", "other", "missing"):
         status, output, told = call([*RELEASE, "--verify", f"{room}/{name}.tar.gz", "--program", program])
-        show(f"{name}.tar.gz isn't verified", status == 1, output == "", told.startswith("release: "), told.count("\n") == 1, f" {told}")
+        show(f"{name}.tar.gz isn't verified", status == 1, output == "", told.startswith("release: "),
+             told.count("\n") == 1, f" {told}")
 
 
 def try_verify(room, program):
@@ -349,7 +374,8 @@ def try_verify(room, program):
     for name in names:
         start = time.time()
         status, output, told = call([*RELEASE, "--verify", f"{room}/released/{name}", "--program", program])
-        show(f"a clone in another folder makes the same {name}; it took {time.time() - start:.0f} seconds", status == 0, told == "",
+        show(f"a clone in another folder makes the same {name}; it took {time.time() - start:.0f} seconds", status == 0,
+             told == "",
              archive.sum_of(read(f"{room}/released/{name}")) in output, f" {output}{told}")
     status, output, told = call([*RELEASE, "--verify", f"{room}/released/{names[0]}", "--program", "/bin/true"])
     show("but not by another program", status == 1, "another program" in output, told == "")

@@ -3,11 +3,11 @@
 
     bench/repairs.py [PROGRAM] [--count N] [--first N] [--levels 0,1,2,3,s] [--jobs N] [--keep FOLDER]
 
-Each program of bench/programs.py goes, at each level of gcc with -ftrapv, through `shadowfix` as text and as a linked file with
---aside, to an image that `check` must accept, and back to ELF. qemu-alpha runs gcc's own file and the repaired one: the
-same output and status are wanted. The table counts by level and way what was accepted with the same, with another, and what
-was refused, by its cause; the status is 1 where anything was accepted with another. With --keep the files of the programs
-that weren't accepted with the same output are kept.
+Each program of bench/programs.py goes, at each level of gcc with -ftrapv, through `shadowfix` as text and as a linked
+file with --aside, to an image that `check` must accept, and back to ELF. qemu-alpha runs gcc's own file and the
+repaired one: the same output and status are wanted. The table counts by level and way what was accepted with the same,
+with another, and what was refused, by its cause; the status is 1 where anything was accepted with another. With --keep
+the files of the programs that weren't accepted with the same output are kept.
 """
 import argparse
 import collections
@@ -143,7 +143,8 @@ class Trial:
         labelled = call("awk", "-f", os.path.join(TOP, "examples/labels.awk"), given=listing)
         with open(self.path("list.s"), "wb") as file:
             file.write(labelled)
-        self.companion("shadowfix", "--aside", "--map", self.path("p.map"), self.path("list.s"), "-o", self.path("aside.s"))
+        self.companion("shadowfix", "--aside", "--map", self.path("p.map"), self.path("list.s"), "-o",
+                       self.path("aside.s"))
         call(self.program, "asm", self.path("aside.s"), self.path("aside.img"))
         self.companion("same", self.path("p.img"), self.path("aside.img"), "--symbols", self.path("p.map"))
         return self.judged("aside.img")

@@ -63,7 +63,8 @@ def main():
     journal = largest()
     with file_of(image(LOOPS["loads"])) as file, file_of(journal) as kept:
         memory = most_memory([program, "replay", file.name, kept.name])
-        print(f"the largest journal: {len(journal) / 1e6:.1f} MB, memory {memory / 1e6:.1f} MB, {memory / len(journal):.2f} of the file")
+        print(f"the largest journal: {len(journal) / 1e6:.1f} MB, memory {memory / 1e6:.1f} MB, "
+              f"{memory / len(journal):.2f} of the file")
 
 
 if __name__ == "__main__":

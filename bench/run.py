@@ -16,7 +16,8 @@ FEW, MANY = 20_000, 220_000
 FEW_OVERFLOWS, MANY_OVERFLOWS = 2_000, 22_000
 LONGEST_CHOICES = 1 << 20
 # `addq/v $1,$2,$3` overflows once $1 is the greatest signed number and $2 is 1.
-SET_UP = [operate(0x11, 0x28, 31, 31, 1), operate(0x12, 0x34, 1, 0, 1) | 3 << 12, operate(0x10, 0x20, 31, 0, 2) | 3 << 12]
+SET_UP = [operate(0x11, 0x28, 31, 31, 1), operate(0x12, 0x34, 1, 0, 1) | 3 << 12,
+          operate(0x10, 0x20, 31, 0, 2) | 3 << 12]
 PLAIN = operate(0x10, 0x20, 4, 5, 6)
 WAITING = 10
 

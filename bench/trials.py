@@ -42,8 +42,9 @@ def chosen(number):
 
 
 def drawn_by(adds, multiplies, words):
-    """How many words a block draws on the imprecise machine, where its addition and its multiplication overflow or don't. The
-    addition's trap may be reported at each of the two words before the barrier; the handler goes on behind the addition."""
+    """How many words a block draws on the imprecise machine, where its addition and its multiplication overflow or
+    don't. The addition's trap may be reported at each of the two words before the barrier; the handler goes on behind
+    the addition."""
     count = 0
     if adds:
         next(words)
@@ -70,5 +71,6 @@ def written(number):
         drawn += drawn_by(adds, multiplies, words)
     # Of a block the sum, the sum and one, and the product, whose low 32 bits are 0, leave 1 together.
     result = (number % 2).to_bytes(8, "little").hex()
-    same = f"words {9 * number + 10} triggers {2 * number} overflows {overflows} steps {9 * number + 10} result {result}"
+    same = (f"words {9 * number + 10} triggers {2 * number} overflows {overflows} steps {9 * number + 10} result "
+            f"{result}")
     return f"sequential {same} drawn 0\nimprecise {same} drawn {drawn}\n"

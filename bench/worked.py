@@ -335,7 +335,8 @@ JUMPS = {
             {"pc": PLACE + 16}),
     "jsr": ("as `jmp`", "jsr $26,($27),0", {27: PLACE + 16}, {26: PLACE + 4}, {"pc": PLACE + 16}),
     "ret": ("as `jmp`", "ret $31,($26),1", {26: PLACE + 16}, {}, {"pc": PLACE + 16}),
-    "jsr_coroutine": ("as `jmp`, also where both are one register", "jsr_coroutine $27,($27),0", {27: PLACE + 16}, {27: PLACE + 4},
+    "jsr_coroutine": ("as `jmp`, also where both are one register", "jsr_coroutine $27,($27),0", {27: PLACE + 16},
+                      {27: PLACE + 4},
                       {"pc": PLACE + 16}),
 }
 
@@ -349,7 +350,8 @@ MISC = {
 }
 
 PAL = {
-    "bpt": ("the program ends by signal 0; a barrier", "bpt", {}, {}, {"pc": PLACE, "end": "signal 0 at 0000000000010000"}),
+    "bpt": ("the program ends by signal 0; a barrier", "bpt", {}, {},
+            {"pc": PLACE, "end": "signal 0 at 0000000000010000"}),
     "bugchk": ("the program ends by signal 1; a barrier", "bugchk", {}, {},
                {"pc": PLACE, "end": "signal 1 at 0000000000010000"}),
     "gentrap": ("the program ends by signal 2; a barrier", "gentrap", {}, {},
@@ -361,24 +363,29 @@ PAL = {
 }
 
 SECTIONS = [
-    ("Arithmetic", "\"Wrapped to 32 bits\": the low 32 bits of the exact result, extended by their sign. These forms use "
-     "the low 32 bits of their operands alone. With `/V` an instruction gives what it gives without, and overflows where the "
+    ("Arithmetic",
+     "\"Wrapped to 32 bits\": the low 32 bits of the exact result, extended by their sign. These forms use "
+     "the low 32 bits of their operands alone. With `/V` an instruction gives what it gives without, and overflows "
+     "where the "
      "exact sum, difference or product of its operands, signed and of 32 or 64 bits, isn't in -2^31..2^31 - 1 or "
      "-2^63..2^63 - 1.",
-     ["addl", "addl/v", "addq", "addq/v", "subl", "subl/v", "subq", "subq/v", "mull", "mull/v", "mulq", "mulq/v", "umulh",
-      "s4addl", "s4addq", "s4subl", "s4subq", "s8addl", "s8addq", "s8subl", "s8subq"]),
+     ["addl", "addl/v", "addq", "addq/v", "subl", "subl/v", "subq", "subq/v", "mull", "mull/v", "mulq", "mulq/v",
+      "umulh", "s4addl", "s4addq", "s4subl", "s4subq", "s8addl", "s8addq", "s8subl", "s8subq"]),
     ("Comparisons", "", ["cmpeq", "cmplt", "cmple", "cmpult", "cmpule", "cmpbge"]),
     ("Logic and shifts", "", ["and", "bic", "bis", "ornot", "xor", "eqv", "sll", "srl", "sra"]),
     ("Conditional moves", "", ["cmoveq", "cmovne", "cmovlt", "cmovle", "cmovgt", "cmovge", "cmovlbs", "cmovlbc"]),
     ("Bytes", "*n* is *b* mod 8. Byte 0 is the lowest.",
-     ["extbl", "extwl", "extll", "extql", "extwh", "extlh", "extqh", "insbl", "inswl", "insll", "insql", "inswh", "inslh",
-      "insqh", "mskbl", "mskwl", "mskll", "mskql", "mskwh", "msklh", "mskqh", "zap", "zapnot", "sextb", "sextw"]),
-    ("Counts, and what a level has", "`ctpop`, `ctlz` and `cttz` are of level 2, all other instructions of both levels.",
+     ["extbl", "extwl", "extll", "extql", "extwh", "extlh", "extqh", "insbl", "inswl", "insll", "insql", "inswh",
+      "inslh", "insqh", "mskbl", "mskwl", "mskll", "mskql", "mskwh", "msklh", "mskqh", "zap", "zapnot", "sextb",
+      "sextw"]),
+    ("Counts, and what a level has",
+     "`ctpop`, `ctlz` and `cttz` are of level 2, all other instructions of both levels.",
      ["ctpop", "ctlz", "cttz", "amask", "implver"]),
-    ("Memory", "Before the line of a load or a store the 16 bytes from 0x10000000 on are 80 81 82 and so on to 8f, $2 is "
+    ("Memory",
+     "Before the line of a load or a store the 16 bytes from 0x10000000 on are 80 81 82 and so on to 8f, $2 is "
      "0x10000000, and $1 of a store 0x123456789abcdef.",
-     ["lda", "ldah", "ldbu", "ldwu", "ldl", "ldq", "ldq_u", "ldl_l", "ldq_l", "stb", "stw", "stl", "stq", "stq_u", "stl_c",
-      "stq_c"]),
+     ["lda", "ldah", "ldbu", "ldwu", "ldl", "ldq", "ldq_u", "ldl_l", "ldq_l", "stb", "stw", "stl", "stq", "stq_u",
+      "stl_c", "stq_c"]),
     ("Branches", "Where a condition isn't met, the program goes on at the next word.",
      ["br", "bsr", "beq", "bne", "blt", "ble", "bgt", "bge", "blbs", "blbc"]),
     ("Jumps", "", ["jmp", "jsr", "ret", "jsr_coroutine"]),

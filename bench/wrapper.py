@@ -1,11 +1,12 @@
 #!/usr/bin/env python3
 """Tries ./alpha and ./look, in three parts:
 
-    alpha   on a small repository with three crates of its own, so that a build takes a minute: the usage, a machine without the
-            kit, an interruption and what the next build says, a link in a folder on the path, changed sources, a build that
-            fails over a program that worked, and copies
+    alpha   on a small repository with three crates of its own, so that a build takes a minute: the usage, a machine
+            without the kit, an interruption and what the next build says, a link in a folder on the path, changed
+            sources, a build that fails over a program that worked, and copies
     look    on another such repository: an interruption, a look while a build goes on, changed sources, and copies
-    first   on a copy of this repository: a first look, the calls behind it, files, a terminal, and the blocks of README.md
+    first   on a copy of this repository: a first look, the calls behind it, files, a terminal, and the blocks of
+            README.md
 
     bench/wrapper.py [PART ..]     all three, where none is named
 """
@@ -111,7 +112,8 @@ def without_kit(room, called=CALLED):
 
 def interrupt(command, line):
     """Interrupts a command once it has said such a line, as a terminal does; gives how it ended and what it said."""
-    with subprocess.Popen(command, stderr=subprocess.PIPE, stdout=subprocess.PIPE, text=True, start_new_session=True) as build:
+    with subprocess.Popen(command, stderr=subprocess.PIPE, stdout=subprocess.PIPE, text=True,
+                          start_new_session=True) as build:
         said = ""
         for it in build.stderr:
             said += it
@@ -124,7 +126,8 @@ def try_usage(top, bare):
     status, usage, said = call([f"{top}/alpha"], env=bare)
     show("without words the usage comes, without the kit and without a program",
          status == 0, said == "", all(f"\n  {it} " in usage for it in COMMANDS),
-         all(f"\n  {it:<4} " in usage for it in [*range(21), FAILED]), "--complete wrap, saturate or stop\n" in usage, "docs/" in usage)
+         all(f"\n  {it:<4} " in usage for it in [*range(21), FAILED]), "--complete wrap, saturate or stop\n" in usage,
+         "docs/" in usage)
     show("and so it does by each word for it",
          all(call([f"{top}/alpha", it], env=bare) == (0, usage, "") for it in ("help", "--help", "-h")),
          "./alpha help [COMMAND]" in usage, "./look help [COMMAND]" in call([f"{top}/look"], env=bare)[1])
@@ -132,7 +135,8 @@ def try_usage(top, bare):
     show("each command has its help", all(status == 0 and text.startswith(f"  {it} ") and not said
                                           for it, (status, text, said) in zip(COMMANDS, helps)))
     status, text, said = call([f"{top}/alpha", "help", "judge"], env=bare)
-    show("another hasn't", status == 2, text == "", said == "alpha: there is no command judge: ./alpha help names all\n")
+    show("another hasn't", status == 2, text == "",
+         said == "alpha: there is no command judge: ./alpha help names all\n")
     show("without a program there is none but that of the sources", call([f"{top}/alpha", "--version"], env=bare) ==
          (0, "version 1.2.3\nno program yet: the first call makes it\n", ""))
 
@@ -153,7 +157,8 @@ def try_builds(room, top, bare):
 
     status, said = interrupt([alpha, "go"], r"alpha: 1 of 3: ")
     show("a build says beforehand how long it takes and how much disk, and counts its crates",
-         re.search(r"3 crates; about \d+ min on \d+ idle processors and \d+ MB of disk", said), "1 of 3: alpha_one" in said)
+         re.search(r"3 crates; about \d+ min on \d+ idle processors and \d+ MB of disk", said),
+         "1 of 3: alpha_one" in said)
     show("an interruption ends it", status == -signal.SIGINT, not os.path.exists(program))
 
     os.makedirs(f"{room}/path")
@@ -180,7 +185,8 @@ def try_edits(top, bare):
     os.utime(source)
     show("a source that is newer and has the same text is not proved again", call([alpha, "go"], env=bare) == ANSWER)
     write(f"{top}/crates/alpha_other/src/lib.rt", NUMBER.replace("The number", "Gives the number"))
-    show("nor are the crates below the program where another one is changed", call([alpha, "go"]) == ANSWER, read(program) == was)
+    show("nor are the crates below the program where another one is changed", call([alpha, "go"]) == ANSWER,
+         read(program) == was)
     write(source, NUMBER.replace("    of\n", "    1\n"))
     os.utime(source, (0, 0))
     status, output, said = call([alpha, "go"])
@@ -198,7 +204,8 @@ def try_edits(top, bare):
 def try_copies(room, top, bare, name, program):
     copies = f"{room}/copy", f"{room}/other"
     subprocess.run(["cp", "-r", top, copies[0]], check=True)
-    show(f"a copy for which ./{name} has made its program runs at once", call([f"{copies[0]}/{name}", "go"], env=bare) == ANSWER)
+    show(f"a copy for which ./{name} has made its program runs at once",
+         call([f"{copies[0]}/{name}", "go"], env=bare) == ANSWER)
     write(f"{copies[0]}/crates/alpha_two/src/lib.rt", NUMBER.replace("    of\n", "    of + 0\n"))
     subprocess.run(["cp", "-r", *copies], check=True)
     os.utime(f"{copies[1]}/{program}")
@@ -213,7 +220,8 @@ def try_small_look(room, top, bare):
     show("without the kit no look can be compiled", status == FAILED, output == "", "kit is missing" in said)
     status, said = interrupt([look, "go"], "look: compiling")
     show("an interruption ends a compilation", status == -signal.SIGINT, not os.path.exists(program))
-    with subprocess.Popen([sys.executable, "-c", HOLD], cwd=top, stdin=subprocess.PIPE, stdout=subprocess.PIPE) as build:
+    with subprocess.Popen([sys.executable, "-c", HOLD], cwd=top, stdin=subprocess.PIPE,
+                          stdout=subprocess.PIPE) as build:
         build.stdout.readline()
         status, output, said = call([look, "go"])
         show("a look is compiled while a build holds all crates", (status, output) == ANSWER[:2], build.poll() is None,
@@ -223,10 +231,12 @@ def try_small_look(room, top, bare):
     show("./alpha doesn't run it", call([f"{top}/alpha", "go"], env=bare)[0] == FAILED)
     write(f"{top}/crates/alpha_tool/src/main.rt", MAIN.replace("{} {}", "{}, {}"))
     status, output, said = call([look, "go"])
-    show("it is made anew where a source is changed", (status, output) == (0, "1, 2\n"), said.startswith("look: compiling the program"))
+    show("it is made anew where a source is changed", (status, output) == (0, "1, 2\n"),
+         said.startswith("look: compiling the program"))
     write(f"{top}/crates/alpha_tool/src/main.rt", MAIN + "}")
     status, output, said = call([look, "go"])
-    show("where it can't be compiled the status is 70, with what the kit said", status == FAILED, output == "", "error" in said,
+    show("where it can't be compiled the status is 70, with what the kit said", status == FAILED, output == "",
+         "error" in said,
          said.endswith("look: the program can't be compiled\n"))
     write(f"{top}/crates/alpha_tool/src/main.rt", MAIN)
     show("and the program of the sources as they were is made again", call([look, "go"])[:2] == ANSWER[:2])
@@ -234,7 +244,8 @@ def try_small_look(room, top, bare):
 
 
 def at_terminal(command, lines, cwd):
-    """What a command answers to the first of the lines that are typed at a terminal before the next one, and its status."""
+    """What a command answers to the first of the lines that are typed at a terminal before the next one, and its
+    status."""
     typed, terminal = pty.openpty()
     with subprocess.Popen(command, stdin=terminal, stdout=subprocess.PIPE, text=True, cwd=cwd) as run:
         os.close(terminal)
@@ -250,7 +261,8 @@ def at_terminal(command, lines, cwd):
 
 def try_first(room, real):
     """On a copy of this repository, which has no program."""
-    listed = subprocess.run(["git", "ls-files", "-z", "--cached", "--others", "--exclude-standard"], cwd=TOP, capture_output=True, check=True)
+    listed = subprocess.run(["git", "ls-files", "-z", "--cached", "--others", "--exclude-standard"], cwd=TOP,
+                            capture_output=True, check=True)
     files = [it for it in listed.stdout.decode().split("\0") if it and os.path.exists(f"{TOP}/{it}")]
     for folder in {os.path.dirname(it) for it in files}:
         os.makedirs(f"{real}/{folder}", exist_ok=True)
@@ -259,25 +271,30 @@ def try_first(room, real):
     os.symlink(f"{real}/look", f"{room}/look")
     start = time.time()
     status, output, said = call([f"{room}/look", "check", "lost.img"], cwd=f"{real}/examples")
-    show(f"a first look has the program's answer and status, and says that it is not proved; it took {time.time() - start:.0f} seconds",
+    show(f"a first look has the program's answer and status, and says that it is not proved; it took "
+         f"{time.time() - start:.0f} seconds",
          status == 1, output == "", "not proved" in said, said.count("\n") == 2, said.endswith(LOST))
     start = time.time()
     second = call([f"{room}/look", "check", "lost.img"], cwd=f"{real}/examples")
     show(f"the second says nothing else; it took {time.time() - start:.2f} seconds", second == (1, "", LOST))
     call([f"{room}/look", "asm", f"{real}/examples/lost.s", "kept.img"], cwd=room)
     show("a file that it keeps is there", read(f"{room}/kept.img") == read(f"{real}/examples/lost.img"))
-    answers, status = at_terminal([f"{room}/look", "debug", "factorial.img"], ["dis 0x10000 1", "step"], f"{real}/examples")
+    answers, status = at_terminal([f"{room}/look", "debug", "factorial.img"], ["dis 0x10000 1", "step"],
+                                  f"{real}/examples")
     show("it answers what is typed at a terminal line by line", status == 0, all(answers), f" {answers}")
     show("a word behind -- is the program's", call([f"{room}/look", "--", "--help"]) == (2, "", "words\n"))
-    closed = [subprocess.run(f"{room}/look {words}", shell=True, cwd=f"{real}/examples", stderr=subprocess.DEVNULL, check=False).returncode
+    closed = [subprocess.run(f"{room}/look {words}", shell=True, cwd=f"{real}/examples", stderr=subprocess.DEVNULL,
+                             check=False).returncode
               for words in ("debug lost.img <&-", "check repaired.img >&-", "dis lost.img >/dev/full")]
     show("closed and full streams have their statuses", closed == [9, 10, 10])
     blocks = [pages.commands_in(it) for it in pages.Page("README.md").blocks if it[1][:1] == ["console"]]
     blocks = [[(at, command.replace("./alpha", "./look"), shown) for at, command, shown in it] for it in blocks]
     blocks = [it for it in blocks if any("./look" in command for _, command, _ in it)]
     show("it answers as README.md shows of ./alpha", len(blocks) > 2,
-         *(pages.is_shown(wrote, shown) for it in blocks for (_, _, shown), (wrote, _) in zip(it, pages.run_block(it, real))))
-    shadows = call([f"{real}/companions/shadowmap", "examples/refused.img"], cwd=real, env={**os.environ, "ALPHA": "./look"})
+         *(pages.is_shown(wrote, shown) for it in blocks
+           for (_, _, shown), (wrote, _) in zip(it, pages.run_block(it, real))))
+    shadows = call([f"{real}/companions/shadowmap", "examples/refused.img"], cwd=real,
+                   env={**os.environ, "ALPHA": "./look"})
     show("a companion calls it", shadows[0] == 0, shadows[2] == "", "C2: a source is lost" in shadows[1])
 
 

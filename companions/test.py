@@ -3,14 +3,14 @@
 
 usage: companions/test.py [PROGRAM] [--only WORDS]
 
-PROGRAM is the program's path; else the variable ALPHA says it, else it is crates/alpha_tool/out/alpha_tool. Where none is
-there, the tests that need it are skipped, and a line says so. With --only the tests run whose module or name has WORDS in
-it. The last line counts what passed, failed and was skipped; the status is 1 where something failed.
+PROGRAM is the program's path; else the variable ALPHA says it, else it is crates/alpha_tool/out/alpha_tool. Where none
+is there, the tests that need it are skipped, and a line says so. With --only the tests run whose module or name has
+WORDS in it. The last line counts what passed, failed and was skipped; the status is 1 where something failed.
 
-A test is a function of such a module whose name begins with `test_` and goes on as a sentence. It is called with a folder
-of its own, which goes away, and fails by any exception. What it needs beside Python it says: `@needs_program` stands above
-one that asks the program, and `Lacking` is raised where anything else isn't there. These, and what several modules use,
-are in tests/helpers.py. A new module needs no entry anywhere.
+A test is a function of such a module whose name begins with `test_` and goes on as a sentence. It is called with a
+folder of its own, which goes away, and fails by any exception. What it needs beside Python it says: `@needs_program`
+stands above one that asks the program, and `Lacking` is raised where anything else isn't there. These, and what several
+modules use, are in tests/helpers.py. A new module needs no entry anywhere.
 """
 import argparse
 import importlib
@@ -55,7 +55,8 @@ def outcome(name, function):
 
 
 def main():
-    parser = argparse.ArgumentParser(prog="test.py", description=__doc__, formatter_class=argparse.RawDescriptionHelpFormatter)
+    parser = argparse.ArgumentParser(prog="test.py", description=__doc__,
+                                     formatter_class=argparse.RawDescriptionHelpFormatter)
     parser.add_argument("program", metavar="PROGRAM", nargs="?")
     parser.add_argument("--only", metavar="WORDS", default="")
     options = parser.parse_args()
@@ -68,7 +69,8 @@ def main():
             counts[kind] += 1
             if line is not None:
                 print(line, flush=True)
-    print(f"{counts['passed']} passed, {counts['failed']} failed, {counts['skipped']} skipped in {time.time() - started:.0f} s")
+    print(f"{counts['passed']} passed, {counts['failed']} failed, {counts['skipped']} skipped in "
+          f"{time.time() - started:.0f} s")
     return 1 if counts["failed"] else 0
 
 

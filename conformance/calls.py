@@ -37,7 +37,8 @@ def words_of(command, names):
 def call(words, pieces, seconds):
     """What a command did over an input of these pieces. Each but the first comes a moment later."""
     try:
-        child = subprocess.Popen(words, stdin=subprocess.PIPE, stdout=subprocess.PIPE, stderr=subprocess.PIPE, bufsize=0, start_new_session=True)
+        child = subprocess.Popen(words, stdin=subprocess.PIPE, stdout=subprocess.PIPE, stderr=subprocess.PIPE,
+                                 bufsize=0, start_new_session=True)
     except OSError as error:
         return Ran(None, b"", f"{words[0]}: {error.strerror}")
     with child:
@@ -100,7 +101,8 @@ class Talk:
             while self.pieces:
                 if time.monotonic() < self.free:
                     return True
-                self.at += os.write(self.child.stdin.fileno(), self.pieces[0][self.at:self.at + PIECE]) if len(self.pieces[0]) > self.at else 0
+                self.at += (os.write(self.child.stdin.fileno(), self.pieces[0][self.at:self.at + PIECE])
+                            if len(self.pieces[0]) > self.at else 0)
                 if self.at >= len(self.pieces[0]):
                     del self.pieces[0]
                     self.at, self.free = 0, time.monotonic() + PAUSE

@@ -1,7 +1,7 @@
 """What the suite has: which images, how each is run, which journals are recorded of it, and which journals are refused.
 
-An image is that of the source of its name. What it is for is said by the comment at the head of the source. Sources that
-would be long and alike are made here.
+An image is that of the source of its name. What it is for is said by the comment at the head of the source. Sources
+that would be long and alike are made here.
 """
 import os
 import random
@@ -15,19 +15,20 @@ from parts import files
 HERE = os.path.dirname(os.path.abspath(__file__))
 
 ALL = ("wrap", "saturate", "stop")
-# How an image is run: by which completions, for how many steps, over which input, and whether the registers at barriers are
-# asked for; and which journals of it are recorded, by each of these completions.
+# How an image is run: by which completions, for how many steps, over which input, and whether the registers at barriers
+# are asked for; and which journals of it are recorded, by each of these completions.
 Case = namedtuple("Case", "completions steps given is_watched journals")
 PLAIN = Case(("wrap",), 100_000, b"", True, ())
-# How a recorded run chooses: by a seed, or by words of 64 bits. `at-once` reports each trap before the next word, `late` as
-# late as possible, and leaves ones in every destination.
+# How a recorded run chooses: by a seed, or by words of 64 bits. `at-once` reports each trap before the next word,
+# `late` as late as possible, and leaves ones in every destination.
 CHOICES = {"at-once": b"", "late": b"\xff" * 32_768, "astray": struct.pack("<3Q", 0x10000008, 1, 0x77),
            "behind": struct.pack("<4Q", 5, 1, 6, 0), "second": struct.pack("<7Q", 5, 5, 6, 0, 0, 0, 0)}
 SOME, MANY = ("1", "2", "late"), ("1", "2", "3", "at-once", "late")
 
 # ---- values: what operate instructions give
 
-CORNERS = (0, 1, 2, 7, 0x7FFFFFFF, 0x80000000, 0xFFFFFFFF, 0x123456789ABCDEF, 0x8877665544332211, (1 << 63) - 1, 1 << 63,
+CORNERS = (0, 1, 2, 7, 0x7FFFFFFF, 0x80000000, 0xFFFFFFFF, 0x123456789ABCDEF, 0x8877665544332211, (1 << 63) - 1,
+           1 << 63,
            (1 << 64) - 1)
 ARITHMETIC = "addl addq subl subq mull mulq umulh s4addl s4addq s4subl s4subq s8addl s8addq s8subl s8subq".split()
 TRIGGERS = "addl/v addq/v subl/v subq/v mull/v mulq/v".split()
@@ -37,14 +38,17 @@ EXTRACTS = "extbl extwl extll extql extwh extlh extqh insbl inswl insll insql in
 MASKS = "mskbl mskwl mskll mskql mskwh msklh mskqh zap zapnot sll srl sra sextb sextw".split()
 COUNTS = "ctpop ctlz cttz implver sextb sextw addq".split()
 UNARY = {"sextb", "sextw", "amask", "ctpop", "ctlz", "cttz"}
-FORMS = {"arithmetic": ARITHMETIC, "triggers": TRIGGERS, "comparisons": COMPARISONS, "moves": MOVES, "extracts": EXTRACTS, "masks": MASKS,
+FORMS = {"arithmetic": ARITHMETIC, "triggers": TRIGGERS, "comparisons": COMPARISONS, "moves": MOVES,
+         "extracts": EXTRACTS, "masks": MASKS,
          "counts": ["amask", "implver", "ctpop", "ctlz", "cttz"]}
-VALUES = {"arithmetic": (ARITHMETIC, 1), "triggers": (TRIGGERS, 1), "comparisons": (COMPARISONS, 1), "moves": (MOVES, 1),
+VALUES = {"arithmetic": (ARITHMETIC, 1), "triggers": (TRIGGERS, 1), "comparisons": (COMPARISONS, 1),
+          "moves": (MOVES, 1),
           "extracts": (EXTRACTS, 1), "masks": (MASKS, 1), "features": (["amask", "implver"], 1), "counts": (COUNTS, 2)}
 
 
 def lines_of(name, number):
-    """The line of an instruction on $1 and $2 into $3, and the one with a literal of its own for $2, where it has one."""
+    """The line of an instruction on $1 and $2 into $3, and the one with a literal of its own for $2, where it has
+    one."""
     if name == "implver":
         return [f"{name} $3"]
     first = "" if name in UNARY else "$1,"
@@ -54,15 +58,17 @@ def lines_of(name, number):
 
 
 def values_source(names, level):
-    """A program that reads three quadwords, a, b and c, and writes what each line gives with a in $1, b in $2 and c in $3
-    before it, until the input ends."""
+    """A program that reads three quadwords, a, b and c, and writes what each line gives with a in $1, b in $2 and c in
+    $3 before it, until the input ends."""
     lines = [line for number, name in enumerate(names, 1) for line in lines_of(name, number)]
-    said = ["# a, b and c of each 24 bytes of the input in $1, $2 and $3: a quadword of output for each of these lines' $3:"]
+    said = ["# a, b and c of each 24 bytes of the input in $1, $2 and $3: a quadword of output for each of these "
+            "lines' $3:"]
     said += ["# " + "; ".join(lines[n:n + 6]) for n in range(0, len(lines), 6)]
     body = []
     for number, line in enumerate(lines):
         body += ["ldq $3,16($9)", line, f"stq $3,{24 + 8 * number}($9)"] + (["trapb"] if "/v" in line else [])
-    calls = ["lda $0,4($31)", "lda $16,1($31)", "lda $17,24($9)", f"lda $18,{8 * len(lines)}($31)", "callsys", "br next",
+    calls = ["lda $0,4($31)", "lda $16,1($31)", "lda $17,24($9)", f"lda $18,{8 * len(lines)}($31)", "callsys",
+             "br next",
              "end: clr $16", "lda $0,1($31)", "callsys"]
     head = ["ldah $9,0x1000($31)", "next: lda $0,3($31)", "clr $16", "mov $9,$17", "lda $18,24($31)", "callsys",
             "subq $0,24,$4", "bne $4,end", "ldq $1,0($9)", "ldq $2,8($9)"]
@@ -73,13 +79,15 @@ def values_source(names, level):
 
 def long_source(words, condition):
     """A shadow of so many words behind its trigger."""
-    head = [f"# {condition}: {words} words stand between the trigger and its barrier.", ".code", "start: lda $1,-1($31)",
+    head = [f"# {condition}: {words} words stand between the trigger and its barrier.", ".code",
+            "start: lda $1,-1($31)",
             "srl $1,1,$1", "lda $2,1($31)", "addq/v $1,$2,$3"]
     tail = ["trapb", "addq $3,$4,$16", "lda $0,1($31)", "callsys", ".entry start"]
     return "\n".join([*head, *["lda $4,4($31)"] * words, *tail]) + "\n"
 
 
-LINES = {"branches": ("Branches, 1 where they are taken.", lines.branches), "addresses": ("LDA and LDAH.", lines.addresses),
+LINES = {"branches": ("Branches, 1 where they are taken.", lines.branches),
+         "addresses": ("LDA and LDAH.", lines.addresses),
          "bases": ("Loads whose base is loaded, stores, links, and what R31 takes.", lines.bases),
          "flags": ("Conditional stores behind each kind of word, 1 where the flag was still set.", lines.flags)}
 
@@ -90,11 +98,13 @@ def made_sources():
     made["values-products"] = values_source(TRIGGERS + ["umulh", "mull", "mulq"], 1)
     made["shadow-c9"] = long_source(1_025, "C9")
     made["shadow-c9-repaired"] = long_source(1_024, "As shadow-c9, with one word less")
-    made |= {f"values-forms-{name}": lines.source("Registers that are alike, R31, and literals.", list(lines.forms(names)), 2)
+    made |= {f"values-forms-{name}": lines.source("Registers that are alike, R31, and literals.",
+                                                  list(lines.forms(names)), 2)
              for name, names in FORMS.items()}
     made |= {f"values-{name}": lines.source(about, list(rows_of()), 2) for name, (about, rows_of) in LINES.items()}
     two = files.read_text(os.path.join(HERE, "sources", "late-two.s")).split("\n", 2)[2]
-    made |= {f"late-two-{steps}": f"# As late-two, which exits with its ninth step, by {steps} steps.\n{two}" for steps in (4, 5, 8, 9)}
+    made |= {f"late-two-{steps}": f"# As late-two, which exits with its ninth step, by {steps} steps.\n{two}"
+             for steps in (4, 5, 8, 9)}
     return made | wild.sources() | families.sources()
 
 
@@ -117,16 +127,21 @@ def shifts():
 
 def few():
     """Rows for lines whose registers matter, and not so much what they have."""
-    return rows([(0x8877665544332211, 0x123456789ABCDEF, 0x7A6958473625140), (5, 3, 2), (0, 1, -1), (-1, 0, 1 << 63), ((1 << 63) - 1, 1, 1 << 31)])
+    return rows([(0x8877665544332211, 0x123456789ABCDEF, 0x7A6958473625140), (5, 3, 2), (0, 1, -1), (-1, 0, 1 << 63),
+                 ((1 << 63) - 1, 1, 1 << 31)])
 
 
 def bounds():
     """Products and sums at the bounds of 32 and 64 bits, and one to each side of them."""
     whole, half = 1 << 63, 1 << 31
-    products = [(3, -(whole + 1) // 3), (-3, (whole + 1) // 3), (3, (whole + 1) // 3), (-1, whole - 1), (1, whole - 1), (-1, -whole), (1, -whole), (2, whole // 2),
-                (-2, whole // 2), (7, (whole - 1) // 7), (-7, (whole - 1) // 7), (1 << 32, half), (1 << 32, -half), (-(1 << 32), half),
-                (3, -(half + 1) // 3), (-3, (half + 1) // 3), (3, (half + 1) // 3), (-1, half - 1), (1, -half), (-1, -half), (1 << 16, 1 << 15), (1 << 16, -(1 << 15)),
-                (1 << 33, 1), (half, half), (-half, half), (-half, -half), (46_341, 46_341), (46_340, 46_341), (3_037_000_500, 3_037_000_500), (3_037_000_499, 3_037_000_500),
+    products = [(3, -(whole + 1) // 3), (-3, (whole + 1) // 3), (3, (whole + 1) // 3), (-1, whole - 1), (1, whole - 1),
+                (-1, -whole), (1, -whole), (2, whole // 2),
+                (-2, whole // 2), (7, (whole - 1) // 7), (-7, (whole - 1) // 7), (1 << 32, half), (1 << 32, -half),
+                (-(1 << 32), half),
+                (3, -(half + 1) // 3), (-3, (half + 1) // 3), (3, (half + 1) // 3), (-1, half - 1), (1, -half),
+                (-1, -half), (1 << 16, 1 << 15), (1 << 16, -(1 << 15)),
+                (1 << 33, 1), (half, half), (-half, half), (-half, -half), (46_341, 46_341), (46_340, 46_341),
+                (3_037_000_500, 3_037_000_500), (3_037_000_499, 3_037_000_500),
                 ((5 << 32) + 3, (7 << 32) + 4), ((1 << 32) + half - 1, (9 << 32) + 1)]
     sums = [(a + b, c) for a in (whole - 1, -whole, half - 1, -half) for b in (-1, 0, 1) for c in (-2, -1, 0, 1, 2)]
     return rows([(a, b, 0x5555AAAA) for a, b in products + sums])
@@ -134,7 +149,9 @@ def bounds():
 
 def values():
     """A value a row, with 0, 1, both signs and each low and high bit alone."""
-    return rows([(value, 2, 3) for value in [0, 1, 2, 3, -1, -2, 1 << 63, (1 << 63) + 1, (1 << 63) - 1, *[1 << n for n in (8, 16, 31, 32, 33, 47, 62)], -(1 << 32), 1 << 32 | 1]])
+    return rows([(value, 2, 3)
+                 for value in [0, 1, 2, 3, -1, -2, 1 << 63, (1 << 63) + 1, (1 << 63) - 1,
+                               *[1 << n for n in (8, 16, 31, 32, 33, 47, 62)], -(1 << 32), 1 << 32 | 1]])
 
 
 def quadwords(*values):
@@ -154,7 +171,8 @@ CASES = {
     "values-counts": PLAIN._replace(given=pairs(), is_watched=False),
     "values-products": PLAIN._replace(given=bounds(), is_watched=False, completions=("wrap", "saturate")),
     **{f"values-forms-{name}": PLAIN._replace(given=few(), is_watched=False) for name in FORMS},
-    **{f"values-{name}": PLAIN._replace(given=values() if name == "branches" else few(), is_watched=False) for name in LINES},
+    **{f"values-{name}": PLAIN._replace(given=values() if name == "branches" else few(), is_watched=False)
+       for name in LINES},
     **{name: PLAIN._replace(completions=ALL, journals=("1", "2", "3", "late")) for name in wild.sources()},
     "reads": PLAIN._replace(given=b"twenty bytes, or so\n"),
     **{f"late-two-{steps}": PLAIN._replace(steps=steps, completions=ALL, journals=SOME) for steps in (4, 5, 8, 9)},
@@ -162,7 +180,8 @@ CASES = {
     "completions": PLAIN._replace(completions=ALL, journals=MANY),
     "late-masks": PLAIN._replace(completions=ALL, journals=MANY),
     "late-loop": PLAIN._replace(completions=ALL, journals=MANY,
-                                given=quadwords(5, 1 << 62, 1 << 62, -7, (1 << 63) - 1, -3, 0x80000000, 1 << 63, 12) + b"end"),
+                                given=quadwords(5, 1 << 62, 1 << 62, -7, (1 << 63) - 1, -3, 0x80000000, 1 << 63, 12)
+                                + b"end"),
     "end-loop": PLAIN._replace(steps=10),
     "end-stop": PLAIN._replace(completions=ALL, journals=SOME),
     "end-exit": PLAIN._replace(journals=("1",)),
@@ -192,8 +211,8 @@ def case_of(name):
     return CASES.get(name, PLAIN)
 
 
-# The images of which qemu-alpha gives the same output and exit value, once each /V word is one without: it ends a program at
-# an overflow, and without /V an overflow wraps. What isn't here asks for what Linux does otherwise, or for more registers
-# than an exit value shows.
+# The images of which qemu-alpha gives the same output and exit value, once each /V word is one without: it ends a
+# program at an overflow, and without /V an overflow wraps. What isn't here asks for what Linux does otherwise, or for
+# more registers than an exit value shows.
 UNDER_QEMU = {"memory", "branches", "jumps", "barriers", "reads", "completions", "late-masks", "late-loop",
               *(f"values-{name}" for name in VALUES)}

@@ -1,4 +1,5 @@
-"""What is otherwise between what an emulator wrote and what it should have written, in a line, and lines that say where."""
+"""What is otherwise between what an emulator wrote and what it should have written, in a line, and lines that say
+where."""
 import functools
 from collections import Counter
 
@@ -53,12 +54,14 @@ def of_parts(notes, parts, with_barriers):
 
 
 def notes_difference(ran_notes, wanted, parts, lines):
-    """The first difference of the notes, or None. `lines` answers the lines of the source before a barrier, or of an overflow."""
+    """The first difference of the notes, or None. `lines` answers the lines of the source before a barrier, or of an
+    overflow."""
     has_barriers = any(one[0].startswith("barrier ") for one in cut(wanted))
     have, want = (of_parts(notes, parts, has_barriers) for notes in (ran_notes, wanted))
     for number, wanted_one in enumerate(want):
         if number == len(have):
-            return Told(f"the notes end before `{wanted_one[0]}`", *lines_of(None, wanted_one, want[:number], lines), is_short=True)
+            return Told(f"the notes end before `{wanted_one[0]}`", *lines_of(None, wanted_one, want[:number], lines),
+                        is_short=True)
         if have[number] != wanted_one:
             found = note_difference(have[number], wanted_one, want[:number], lines)
             return Told(found.text, *found.calls, functools.partial(often, lines.image, have, want))
@@ -69,7 +72,8 @@ def often(image, *notes):
     """Which words overflow more often or less than they should, where some do again and again."""
     told, wanted = (Counter(one[0] for one in some if one[0].startswith("overflow ")) for some in notes)
     wrong = [note for note in {**wanted, **told} if told[note] != wanted[note] and told[note] + wanted[note] > 2]
-    return [f"{telling.noted(image, note)}: told {told[note]} times in all, and wanted {wanted[note]} times" for note in wrong[:MOST_OFTEN]]
+    return [f"{telling.noted(image, note)}: told {told[note]} times in all, and wanted {wanted[note]} times"
+            for note in wrong[:MOST_OFTEN]]
 
 
 def note_difference(have, want, before, lines):
@@ -107,7 +111,8 @@ def end_difference(ran, wanted, image):
         return None
     notes = cut(ran.notes)
     if notes and notes[-1][0].startswith("barrier "):
-        return Told(f"there is no end behind `{notes[-1][0]}`, and `{want}` is wanted", lambda: telling.named(image, want))
+        return Told(f"there is no end behind `{notes[-1][0]}`, and `{want}` is wanted",
+                    lambda: telling.named(image, want))
     return Told(f"the end is `{have}`, and `{want}` is wanted", lambda: telling.named(image, have, want))
 
 

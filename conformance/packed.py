@@ -8,7 +8,8 @@ HERE = os.path.dirname(os.path.abspath(__file__))
 PATH = os.path.join(HERE, "cases.tsv")
 # `given` is the input, in pieces; of an image its bytes. `journal` is of late and refuse alone, `choices` of late.
 Case = namedtuple("Case", "file kind image completion steps answer about given choices journal output")
-HEAD = """# The small cases of the suite, one a line, with tabs between the columns; - stands for nothing. conformance/README.md says how
+HEAD = """# The small cases of the suite, one a line, with tabs between the columns; - stands for nothing. \
+conformance/README.md says how
 # they are run. The columns:
 #
 # name        the image, a point, and the case; of bad images and those at the edge of a rule `images`

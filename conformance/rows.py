@@ -1,4 +1,5 @@
-"""What is otherwise in the output of an image of values, which has a quadword for each of its lines and each row of operands."""
+"""What is otherwise in the output of an image of values, which has a quadword for each of its lines and each row of
+operands."""
 import functools
 import os
 import re
@@ -55,17 +56,21 @@ class Values:
         return f"{self.lines[number][0]} with {self.told(row, number)}"
 
     def more(self):
-        """Which lines are otherwise in how many rows, and some rows of one of them, which is right in others if one is."""
+        """Which lines are otherwise in how many rows, and some rows of one of them, which is right in others if one
+        is."""
         wrong, rows = self.wrong(), range(len(self.wanted) // 8 // len(self.lines))
         number = next((number for number in wrong if len(wrong[number]) < len(rows)), next(iter(wrong)))
         line, at = self.lines[number]
         named = re.findall(r"\$([123])\b", line if line.startswith("cmov") else line.rpartition(",")[0]) or "123"
-        right = [f"  right: {self.operands(row, named)} gives {self.value(row, number, self.wanted):#x}" for row in rows if row not in wrong[number]]
-        found = [f"{self.image}.s:{at}: " * bool(at) + f"{line} is otherwise in {len(wrong[number])} of {len(rows)} rows"]
+        right = [f"  right: {self.operands(row, named)} gives {self.value(row, number, self.wanted):#x}" for row in rows
+                 if row not in wrong[number]]
+        found = [f"{self.image}.s:{at}: " * bool(at)
+                 + f"{line} is otherwise in {len(wrong[number])} of {len(rows)} rows"]
         found += some([f"  otherwise: {self.told(row, number, named)}" for row in wrong[number]]) + some(right)
         others = [f"{self.lines[other][0]} in {len(wrong[other])}" for other in wrong if other != number]
         if others:
-            found.append("otherwise too: " + "; ".join(others[:MOST_LINES]) + f"; and {len(others) - MOST_LINES} more" * (len(others) > MOST_LINES))
+            found.append("otherwise too: " + "; ".join(others[:MOST_LINES])
+                         + f"; and {len(others) - MOST_LINES} more" * (len(others) > MOST_LINES))
         left = len(self.lines) - len(wrong)
         return [*found, f"right in all rows: {left} of {len(self.lines)} lines"]
 
@@ -73,4 +78,5 @@ class Values:
 def some(texts):
     """A few of some texts that differ, from the first to the last."""
     texts = list(dict.fromkeys(texts))
-    return [texts[n * (len(texts) - 1) // (MOST_ROWS - 1)] for n in range(MOST_ROWS)] if len(texts) > MOST_ROWS else texts
+    return ([texts[n * (len(texts) - 1) // (MOST_ROWS - 1)] for n in range(MOST_ROWS)] if len(texts) > MOST_ROWS
+            else texts)

@@ -22,7 +22,8 @@ class Maker:
             made = list(pool.map(self.case, enumerate(rows)))
         names = [case.file for case in made]
         if len(set(names)) != len(names):
-            raise files.Refused(f"two cases have one name: {sorted(name for name in set(names) if names.count(name) > 1)[:5]}")
+            raise files.Refused(f"two cases have one name: "
+                                f"{sorted(name for name in set(names) if names.count(name) > 1)[:5]}")
         return [packed.line_of(case) + "\n" for case in made]
 
     def case(self, numbered):
@@ -59,7 +60,8 @@ class Maker:
     def recorded(self, row, number):
         """The journal of a run with late traps, and what it put and told."""
         chosen, kept = self.scratch.file(f"{number}.chosen", row.choices), self.scratch.file(f"{number}.kept", b"")
-        words = ["record", "--force", "--complete", row.completion, "--steps", str(row.steps), "--choices", chosen, self.image_path(row), kept]
+        words = ["record", "--force", "--complete", row.completion, "--steps", str(row.steps), "--choices", chosen,
+                 self.image_path(row), kept]
         out, notes = self.call(RUN, *words, given=row.given)
         return journal.read_journal(kept), out, notes
 
@@ -79,4 +81,5 @@ class Maker:
 
     @staticmethod
     def made(row, kind, answer, given, choices=b"", kept=b"", output=b""):
-        return packed.Case(row.name, kind, row.image, row.completion, row.steps, answer, row.about, given, choices, kept, output)
+        return packed.Case(row.name, kind, row.image, row.completion, row.steps, answer, row.about, given, choices,
+                           kept, output)

@@ -11,8 +11,8 @@ from differences import ENDS, Told, end_difference, is_end, last, notes_differen
 
 HERE = os.path.dirname(os.path.abspath(__file__))
 Line = namedtuple("Line", "file kind image completion steps answer origin about")
-# What is run: its name, what it is there for, a call that answers the first difference or None, and one that answers its files,
-# as names and bytes.
+# What is run: its name, what it is there for, a call that answers the first difference or None, and one that answers
+# its files, as names and bytes.
 Part = namedtuple("Part", "name about try_it files")
 PARTS = ("output", "overflows", "barriers", "end")
 COMPLETIONS = ("wrap", "saturate", "stop")
@@ -50,8 +50,8 @@ class Suite:
     def __init__(self, options, folder, tables=None):
         self.options, self.folder = options, folder
         tables = tables or Tables()
-        # How many traps the recorded runs report, and how many words they execute while one is pending; and how many calls had
-        # no end.
+        # How many traps the recorded runs report, and how many words they execute while one is pending; and how many
+        # calls had no end.
         self.reports = self.waits = self.hangs = 0
         self.images = {line.image: line for line in tables.lines if line.kind == "image"}
         lines = [line for line in tables.lines if self.is_meant(line.file)]
@@ -98,9 +98,12 @@ class Suite:
         found = notes_difference(ran.notes, wanted, without_end, lines)
         if "end" in parts and (found is None or found.is_short):
             ended = end_difference(ran, wanted, line.image)
-            found = ended if found is None or ended is None else Told(f"{found.text}; {ended.text}", *ended.calls, *found.calls)
+            found = (ended if found is None or ended is None
+                     else Told(f"{found.text}; {ended.text}", *ended.calls, *found.calls))
         wrong = output_difference(line, ran.out, output, given) if "output" in parts else None
-        if wrong and (found is None or ran.status == 0 and last(ran.notes).startswith("exit") and "barrier " not in found.text):
+        if (wrong
+            and (found is None
+                 or ran.status == 0 and last(ran.notes).startswith("exit") and "barrier " not in found.text)):
             found = wrong if found is None else Told(f"{wrong.text}; {found.text}", *wrong.calls, *found.calls)
         if found is None and "end" in parts:
             found = notes_difference(ran.notes, wanted, parts, lines) or status_difference(ran.status, last(wanted))
@@ -113,7 +116,8 @@ class Suite:
 
     def case(self, case):
         """The first difference of a small run, or None."""
-        ran = self.call(self.options.run, case.given, image=self.image(case), complete=case.completion, steps=case.steps)
+        ran = self.call(self.options.run, case.given, image=self.image(case), complete=case.completion,
+                        steps=case.steps)
         return self.of_block(case, self.difference(case, ran, notes_of(case), case.output, b"".join(case.given)))
 
     def edge(self, case):
@@ -129,7 +133,8 @@ class Suite:
     def choose(self, case):
         """The first difference of a run with late traps by its choices, or None."""
         path = self.file(case, "choices", case.choices)
-        ran = self.call(self.options.choose, case.given, image=self.image(case), complete=case.completion, steps=case.steps, choices=path)
+        ran = self.call(self.options.choose, case.given, image=self.image(case), complete=case.completion,
+                        steps=case.steps, choices=path)
         os.unlink(path)
         return self.of_block(case, self.difference(case, ran, notes_of(case), case.output, b"".join(case.given)))
 
@@ -161,14 +166,18 @@ class Suite:
             if ran.status == 0:
                 return None if said in ("", wanted) else Told(f"`{said}`, and `{wanted}` is wanted")
             about = self.images[line.image].about
-            return Told(f"a run is refused: {said or last(ran.notes)}. {line.image}: {about}", lambda: [*where_refused(line, whole, said), died(ran)])
+            return Told(f"a run is refused: {said or last(ran.notes)}. {line.image}: {about}",
+                        lambda: [*where_refused(line, whole, said), died(ran)])
         if ran.status == 0 or not said.startswith(("norun", "journal")):
             return Told(f"it is accepted, and should be refused: {line.about}" if ran.status == 0 else
-                        f"{calls.end_text(ran.status)} without a line that refuses it: {last(ran.notes)}", lambda: where_wanted(line, whole, wanted))
+                        f"{calls.end_text(ran.status)} without a line that refuses it: {last(ran.notes)}",
+                        lambda: where_wanted(line, whole, wanted))
         expected = wanted if said.strip() not in ("norun", "journal") else wanted.split()[0]
         if ran.status < 0:
             return Told(f"`{said}`, and then {calls.end_text(ran.status)}")
-        return None if said.strip() == expected else Told(f"`{said}`, and `{wanted}` is wanted: {line.about}", lambda: where_wanted(line, whole, wanted))
+        return (None if said.strip() == expected
+                else Told(f"`{said}`, and `{wanted}` is wanted: {line.about}",
+                          lambda: where_wanted(line, whole, wanted)))
 
     # ---- recorded runs
 
@@ -176,7 +185,8 @@ class Suite:
         """What is wrong with a journal that the emulator has recorded, or None."""
         journal = os.path.join(self.folder, f"{line.image}.{line.completion}.{seed}.journal")
         given = content(f"inputs/{line.image}.in")
-        ran = self.call(self.options.record, [given], image=self.image(line), complete=line.completion, steps=line.steps, seed=seed, journal=journal)
+        ran = self.call(self.options.record, [given], image=self.image(line), complete=line.completion,
+                        steps=line.steps, seed=seed, journal=journal)
         if ran.status is None or not os.path.exists(journal):
             return Told(f"no journal: {last(ran.notes)}")
         if ran.status < 0:
@@ -185,11 +195,13 @@ class Suite:
         said = verdict_of(judged)
         if judged.status != 0:
             whole = content(journal)
-            return Told(f"the journal is refused: {said or last(judged.notes)}", lambda: [*where_wanted(line, whole, said), *self.where_put(line, whole, said, given)])
+            return Told(f"the journal is refused: {said or last(judged.notes)}",
+                        lambda: [*where_wanted(line, whole, said), *self.where_put(line, whole, said, given)])
         try:
             whole = content(journal)
             is_accepted = self.images[line.image].answer == "accepted"
-            return self.recorded(line, whole, said, given) or told_of_record(line, ran, whole, is_accepted) or status_difference(ran.status, end_of(whole))
+            return (self.recorded(line, whole, said, given) or told_of_record(line, ran, whole, is_accepted)
+                    or status_difference(ran.status, end_of(whole)))
         except (struct.error, IndexError, ValueError):
             return Told("the judge accepts it, and it is no journal (docs/journals.md)")
         finally:
@@ -220,7 +232,8 @@ class Suite:
                 return Told(f"the journal ends by `{end}`, and `{wanted}` is wanted")
             if output_of(whole) != content(f"answers/{line.image}.{line.completion}.out"):
                 return Told(f"the journal has {put} bytes of another output than the run without late traps")
-        return None if whole[HEAD.size:HEAD.size + taken] == given[:taken] else Told("the journal has another input than it was given")
+        return (None if whole[HEAD.size:HEAD.size + taken] == given[:taken]
+                else Told("the journal has another input than it was given"))
 
     def count(self, items):
         at = 0
@@ -235,11 +248,14 @@ class Suite:
         """What is run, in its order."""
         if self.options.run:
             for line in self.notes:
-                yield Part(line.file, self.images[line.image].about, lambda line=line: self.run(line), lambda line=line: self.files_of_line(line))
-            yield from (self.part(case, self.case if case.kind == "run" else self.edge) for case in self.cases if case.kind in ("run", "image"))
+                yield Part(line.file, self.images[line.image].about, lambda line=line: self.run(line),
+                           lambda line=line: self.files_of_line(line))
+            yield from (self.part(case, self.case if case.kind == "run" else self.edge) for case in self.cases
+                        if case.kind in ("run", "image"))
         if self.options.follow:
             for line in self.journals:
-                yield Part(line.file, line.about, lambda line=line: self.follow_file(line), lambda line=line: self.files_of_line(line))
+                yield Part(line.file, line.about, lambda line=line: self.follow_file(line),
+                           lambda line=line: self.files_of_line(line))
             yield from (self.part(case, self.follow_case) for case in self.cases if case.kind in ("late", "refuse"))
         if self.options.choose:
             yield from (self.part(case, self.choose, " by choices") for case in self.cases if case.kind == "late")
@@ -247,7 +263,8 @@ class Suite:
             for line in self.notes:
                 for seed in range(1, self.options.seeds + 1):
                     yield Part(f"{line.image} by {line.completion} with seed {seed}", self.images[line.image].about,
-                               lambda line=line, seed=seed: self.record(line, seed), lambda line=line: self.files_of_line(line))
+                               lambda line=line, seed=seed: self.record(line, seed),
+                               lambda line=line: self.files_of_line(line))
 
     @staticmethod
     def part(case, try_it, more=""):
@@ -270,7 +287,8 @@ def notes_of(case):
 
 def files_of_case(case):
     """The files that a small case would have."""
-    parts = {"img" if case.kind == "image" else "in": b"".join(case.given), "choices": case.choices, "journal": case.journal, "out": case.output}
+    parts = {"img" if case.kind == "image" else "in": b"".join(case.given), "choices": case.choices,
+             "journal": case.journal, "out": case.output}
     found = {f"{case.file}.{ending}": part for ending, part in parts.items() if part}
     return found if case.image == "-" else found | {f"{case.image}.img": content(f"images/{case.image}.img")}
 
@@ -292,7 +310,8 @@ def answer_of(case):
 
 def verdict_of(ran):
     """The line of a verdict on a journal, or an empty one."""
-    said = [text for text in (ran.out.decode("utf-8", "replace") + ran.notes).splitlines() if text.startswith(("run units", "norun", "journal"))]
+    said = [text for text in (ran.out.decode("utf-8", "replace") + ran.notes).splitlines()
+            if text.startswith(("run units", "norun", "journal"))]
     return said[-1] if said else ""
 
 
@@ -367,4 +386,5 @@ def told_of_record(line, ran, whole, is_accepted):
         one, other = (f"`{rows[at]}`" if at < len(rows) else "none" for rows in (have, want))
         return Told(f"overflow {at + 1} that is told while it is recorded is {one}, and {other} is wanted")
     ends, wanted = [one for one in lines if is_end(one)], end_of(whole)
-    return Told(f"the end that is told while it is recorded is `{ends[-1]}`, and `{wanted}` is wanted") if ends and ends[-1] != wanted else None
+    return (Told(f"the end that is told while it is recorded is `{ends[-1]}`, and `{wanted}` is wanted")
+            if ends and ends[-1] != wanted else None)

@@ -39,7 +39,8 @@ def short(lines):
     """Some lines, without those in the middle where they are many."""
     lines = list(dict.fromkeys(lines))
     half = MOST_LINES // 2
-    return lines if len(lines) <= MOST_LINES else [*lines[:half], f".. {len(lines) - MOST_LINES} lines ..", *lines[-half:]]
+    return (lines if len(lines) <= MOST_LINES
+            else [*lines[:half], f".. {len(lines) - MOST_LINES} lines ..", *lines[-half:]])
 
 
 def operands_text(word, regs):
@@ -58,8 +59,8 @@ def exact_text(word, regs):
 
 
 class Lines:
-    """The lines of the source that say more of a note, by a right run of an image over an input. Of a run with late traps
-    they say only where the notes are."""
+    """The lines of the source that say more of a note, by a right run of an image over an input. Of a run with late
+    traps they say only where the notes are."""
 
     def __init__(self, image, completion, given, is_late=False):
         self.image, self.completion, self.given, self.is_late = image, completion, given, is_late
@@ -68,9 +69,9 @@ class Lines:
         return places is not None and self.image != "-"
 
     def barrier(self, number, wrong):
-        """What last sets each register that is otherwise at barrier `number`, counted from 1, the earliest first, and what
-        a right run makes between the barrier before and this one. `wrong` has what the registers were told to be, first the
-        one of which that is said already."""
+        """What last sets each register that is otherwise at barrier `number`, counted from 1, the earliest first, and
+        what a right run makes between the barrier before and this one. `wrong` has what the registers were told to be,
+        first the one of which that is said already."""
         if not self.is_known():
             return []
         made, passed, found, setters = machine.Machine(image_of(self.image), self.completion, self.given), 0, [], {}
@@ -84,31 +85,35 @@ class Lines:
             if passed == number - 1:
                 found.append(line_at(self.image, pc))
             passed += is_barrier
-        values = {register: f": {wrong[register]} is told, and {made.regs[register]:016x} is wanted" for register in list(wrong)[1:]}
+        values = {register: f": {wrong[register]} is told, and {made.regs[register]:016x} is wanted"
+                  for register in list(wrong)[1:]}
         told = [setter + values.get(register, "") for register, setter in setters.items()]
-        return [*told[:MOST_SETTERS], f"since barrier {number - 1}:" if number > 1 else "from the start on:", *short(found)]
+        return [*told[:MOST_SETTERS], f"since barrier {number - 1}:" if number > 1 else "from the start on:",
+                *short(found)]
 
     def overflow(self, passed, have, want):
         """What two notes are of, behind so many overflows: the one that is told, and the one that is wanted."""
         if not self.is_known():
             return []
         if self.is_late:
-            return [f"{what}: {line_at(self.image, int(note.split()[1], 16))}" for what, note in (("told", have), ("wanted", want))
+            return [f"{what}: {line_at(self.image, int(note.split()[1], 16))}"
+                    for what, note in (("told", have), ("wanted", want))
                     if note is not None and note.startswith("overflow ")] + named(self.image, have or "", want)
         right, plain = self.overflows(passed)
         told = int(have.split()[1], 16) if have is not None and have.startswith("overflow ") else None
         is_left_out = told is not None and [pc for pc, _ in right[passed + 1:]] == [told]
         lines = []
         if told is not None and not is_left_out:
-            lines.append(f"told: {line_at(self.image, told)}" + (f", which doesn't overflow there{plain[told]}" if told in plain else ""))
+            lines.append(f"told: {line_at(self.image, told)}"
+                         + (f", which doesn't overflow there{plain[told]}" if told in plain else ""))
         if want.startswith("overflow "):
             address, values = right[passed]
             lines.append(f"{'left out' if is_left_out else 'wanted'}: {line_at(self.image, address)}{values}")
         return lines or named(self.image, have or "", want)
 
     def overflows(self, passed):
-        """The words that overflow in a right run, with what they read, up to the second behind so many; and the /V words
-        that are executed behind so many overflows without one."""
+        """The words that overflow in a right run, with what they read, up to the second behind so many; and the /V
+        words that are executed behind so many overflows without one."""
         made, right, plain = machine.Machine(image_of(self.image), self.completion, self.given), [], {}
         while made.end is None and len(right) < passed + 2:
             pc, word = made.pc, made.word()
@@ -144,7 +149,8 @@ def block(image, given):
         return None
     rest = [text.split("#")[0].strip() for text in source.text[first - 1:]]
     labels = [n for n, text in enumerate(rest) if n and text.endswith(":")]
-    end = next((n for n in labels if n <= MOST_OF_BLOCK and rest[n - 1].startswith("br dump")), labels[0] if labels else MOST_OF_BLOCK)
+    end = next((n for n in labels if n <= MOST_OF_BLOCK and rest[n - 1].startswith("br dump")), labels[0] if labels
+               else MOST_OF_BLOCK)
     runs = [(text, len(list(same))) for text, same in itertools.groupby(filter(None, rest[:min(end, MOST_OF_BLOCK)]))]
     return f"{image}.s:{first}: " + "; ".join(text + f", {count} times" * (count > 1) for text, count in runs)
 
@@ -164,7 +170,8 @@ def item_lines(image, content, number):
         if item[0] == journals.REPORT:
             report = [report_text(image, played.machine, at, pc, mask)]
     pending = "" if played.machine.waited is None else f", with a trap pending, mask {played.machine.mask}"
-    return [*report, f"item {number} is `{journals.item_text(items[number])}` at {line_at(image, played.machine.pc)}{pending}"]
+    return [*report,
+            f"item {number} is `{journals.item_text(items[number])}` at {line_at(image, played.machine.pc)}{pending}"]
 
 
 def report_text(image, made, number, pc, mask):

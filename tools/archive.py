@@ -40,7 +40,8 @@ def git(*words, top=TOP):
 def of_shell(function, *words):
     """What a function of tools/start.sh answers."""
     script = 'name=release top=$1; . "$top/tools/start.sh"; shift; "$@"'
-    done = subprocess.run(["sh", "-c", script, "sh", TOP, function, *words], stdin=subprocess.DEVNULL, capture_output=True,
+    done = subprocess.run(["sh", "-c", script, "sh", TOP, function, *words], stdin=subprocess.DEVNULL,
+                          capture_output=True,
                           text=True, check=False)
     if done.returncode:
         raise Refused(f"{function}: {done.stderr.strip()}")
@@ -78,10 +79,12 @@ def needed(program):
 
 
 def made(files, program, proved, version):
-    """What is put to the files of the commit: the program, what was proved of it, manual pages, and what completes its lines."""
+    """What is put to the files of the commit: the program, what was proved of it, manual pages, and what completes its
+    lines."""
     names, launch = companions(files), files["tools/launch.sh"][1]
     texts = {"PROVED": proved, "share/man/man1/alpha.1": manual.of_program(version),
-             "share/bash-completion/completions/alpha": completions.bash(), "share/zsh/site-functions/_alpha": completions.zsh(),
+             "share/bash-completion/completions/alpha": completions.bash(),
+             "share/zsh/site-functions/_alpha": completions.zsh(),
              "share/fish/vendor_completions.d/alpha.fish": completions.fish()}
     texts |= {f"share/man/man1/alpha-{name}.1": manual.of_companion(name, version) for name in names}
     return {"bin/alpha": (True, program), **{f"bin/alpha-{name}": (True, launch) for name in names},
@@ -114,8 +117,8 @@ def compressed(content):
 
 
 def names_of_machine(built):
-    """(paths, names) that nothing in an archive may have: those of this repository, of the one in which the program was built,
-    of the kit and of home; of user and host."""
+    """(paths, names) that nothing in an archive may have: those of this repository, of the one in which the program was
+    built, of the kit and of home; of user and host."""
     kit = os.path.dirname(os.path.dirname(os.path.realpath(shutil.which("rt") or "/")))
     paths = {TOP, built, kit, os.path.expanduser("~")}
     # The user 0 has the same name everywhere.
@@ -124,8 +127,8 @@ def names_of_machine(built):
 
 
 def hold_names(files, made, built):
-    """Refuses files that tell something of the machine. What git keeps is the same everywhere, so names, which may be words
-    of the pages too, are looked for in what was made here."""
+    """Refuses files that tell something of the machine. What git keeps is the same everywhere, so names, which may be
+    words of the pages too, are looked for in what was made here."""
     paths, names = names_of_machine(built)
     for path, (_, content) in {**files, **made}.items():
         told = [it for it in paths if re.search(re.escape(it) + rb"(?![\w-])", content)]

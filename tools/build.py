@@ -1,16 +1,17 @@
 #!/usr/bin/env python3
-"""Proves every crate that the program stands on, and builds the program. ./alpha calls this where the program is missing or
-was made of other sources.
+"""Proves every crate that the program stands on, and builds the program. ./alpha calls this where the program is
+missing or was made of other sources.
 
     tools/build.py [--keep]
 
-Crates that don't stand on one another are proved side by side, by as many processors as memory allows (RT_JOBS=N: by N),
-those with the longest chain of others behind them first. Two jobs share the functions of a crate in a long chain, for which
-everything waits, and processors that are left over those of any crate: more jobs of one crate take more of the processors'
-time together, which is what a build lacks. After an interruption the next build goes on behind the crates that were
-proved. Of a library its statements are kept, which the crates above it load quickly; with --keep its proofs too, which
-takes longer and more disk, and from which `rt check` goes on where a crate is changed. The new program replaces the old
-one once it is whole. The log is .alpha-build.log, which holds all of a build, its interruptions too.
+Crates that don't stand on one another are proved side by side, by as many processors as memory allows (RT_JOBS=N: by
+N), those with the longest chain of others behind them first. Two jobs share the functions of a crate in a long chain,
+for which everything waits, and processors that are left over those of any crate: more jobs of one crate take more of
+the processors' time together, which is what a build lacks. After an interruption the next build goes on behind the
+crates that were proved. Of a library its statements are kept, which the crates above it load quickly; with --keep its
+proofs too, which takes longer and more disk, and from which `rt check` goes on where a crate is changed. The new
+program replaces the old one once it is whole. The log is .alpha-build.log, which holds all of a build, its
+interruptions too.
 
 Where the program can't be built the status is 70, and the program that was there before stays.
 """
@@ -36,10 +37,11 @@ LONG = 0.2
 SHARED = 2
 # How the last line of a whole build begins.
 BUILT = "built"
-# What a check takes where it loads statements alone, as a part of the memory that the kit counts on, and what each further
-# job of it takes, as a part of the first one.
+# What a check takes where it loads statements alone, as a part of the memory that the kit counts on, and what each
+# further job of it takes, as a part of the first one.
 MEMORY, MEMORY_A_JOB = 0.4, 0.6
-# As measured of all crates from nothing. A program's check loads all libraries, which is as much work as a part of their lines.
+# As measured of all crates from nothing. A program's check loads all libraries, which is as much work as a part of
+# their lines.
 SECONDS_A_LINE, PART_OF_A_LIBRARY = 0.05, 1 / 20
 MEGABYTES_A_LINE, MEGABYTES_A_KEPT_LINE = 0.014, 0.09
 
@@ -130,7 +132,8 @@ class Build:
         say(f"{BUILT} in {time.time() - start:.0f} seconds", self.log)
 
     def jobs_within(self, crate):
-        """How many jobs may share a crate's functions, by the processors and as many as half of the free memory holds."""
+        """How many jobs may share a crate's functions, by the processors and as many as half of the free memory
+        holds."""
         if os.environ.get("RT_JOBS"):
             return 1
         held = 1 + int((self.rt.free() / 2 / self.memory(crate) - 1) / MEMORY_A_JOB)
@@ -156,10 +159,12 @@ class Build:
                 give_up(f"the build failed at {crate.name}: .alpha-build.log has all that it said", self.log)
             self.count += 1
             self.seconds[crate] = time.time() - start
-            say(f"{self.count} of {len(self.crates)}: {crate.name} is proved, {self.seconds[crate]:.0f} seconds", self.log)
+            say(f"{self.count} of {len(self.crates)}: {crate.name} is proved, {self.seconds[crate]:.0f} seconds",
+                self.log)
 
     def make_library(self, crate, flags):
-        """Proves a library. Its stamp, which the kit leaves out where statements alone are kept, says that it is whole."""
+        """Proves a library. Its stamp, which the kit leaves out where statements alone are kept, says that it is
+        whole."""
         stamp = crate.stamp()
         status = crate.build_rlib(flags, anew=not self.keeps)
         if status == 0 and not self.keeps and stamp == crate.stamp():
@@ -170,11 +175,12 @@ class Build:
     def link(self, flags):
         """Proves `main`, and makes the new program beside the old one."""
         made = f"{PROGRAM}.new"
-        return self.tool.compile(flags, f"{made}.o") or self.tool.link(f"{made}.o", os.path.relpath(made, self.tool.folder))
+        return (self.tool.compile(flags, f"{made}.o")
+                or self.tool.link(f"{made}.o", os.path.relpath(made, self.tool.folder)))
 
     def replace(self, stamp):
-        """Puts the new program in the place of the old one. Where no source was changed meanwhile it has its stamp, so that
-        `rt run` takes it as its own too."""
+        """Puts the new program in the place of the old one. Where no source was changed meanwhile it has its stamp, so
+        that `rt run` takes it as its own too."""
         os.remove(f"{PROGRAM}.new.o")
         os.replace(f"{PROGRAM}.new", PROGRAM)
         if kit.look_at(self.rt, self.tool) == (stamp, set(self.tool.below())):
@@ -182,7 +188,8 @@ class Build:
 
 
 def build(rt, tool, keeps):
-    """Builds the program, once more where sources are changed meanwhile, until it is that of the sources as they stand."""
+    """Builds the program, once more where sources are changed meanwhile, until it is that of the sources as they
+    stand."""
     rt.Crate.cuts_libraries = not keeps
     for _ in range(ROUNDS):
         stamp, done = kit.look_at(rt, tool)

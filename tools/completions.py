@@ -1,5 +1,5 @@
-"""What completes a line of alpha in bash, zsh and fish: the commands and their options, out of the tables of docs/commands.md
-by which tools/usage.py prints the usage."""
+"""What completes a line of alpha in bash, zsh and fish: the commands and their options, out of the tables of
+docs/commands.md by which tools/usage.py prints the usage."""
 import re
 from collections import namedtuple
 
@@ -17,7 +17,8 @@ def options_of_run(rows):
     for words, means, _ in rows:
         first, *others = SPAN.findall(words)
         name, *value = first.split()
-        yield Option(name, value + others, usage.plain(re.split(r": |\. ", means.removeprefix("needs `--imprecise`: "))[0]))
+        yield Option(name, value + others,
+                     usage.plain(re.split(r": |\. ", means.removeprefix("needs `--imprecise`: "))[0]))
 
 
 def commands():
@@ -41,7 +42,8 @@ def choices(option):
 
 def bash():
     found = commands()
-    cases = "".join(f"    {it.name}) words='{' '.join(option.name for option in it.options)}' ;;\n" for it in found if it.options)
+    cases = "".join(f"    {it.name}) words='{' '.join(option.name for option in it.options)}' ;;\n" for it in found
+                    if it.options)
     values = "".join(f"    {name}) words='{words}' ;;\n" for name, words in sorted(
         {(option.name, " ".join(choices(option))) for it in found for option in it.options if choices(option)}))
     return f"""\
@@ -84,7 +86,8 @@ def zsh_option(option):
 def zsh():
     found = commands()
     described = "\n".join("    " + quoted(f"{it.name}:{it.means}") for it in found)
-    cases = "\n".join(f"{it.name}) _arguments {' '.join(map(zsh_option, it.options))} '*:FILE:_files' ;;" for it in found if it.options)
+    cases = "\n".join(f"{it.name}) _arguments {' '.join(map(zsh_option, it.options))} '*:FILE:_files' ;;"
+                      for it in found if it.options)
     return f"""\
 #compdef alpha
 # What completes a line of alpha in zsh.
@@ -112,5 +115,6 @@ def fish():
         for option in it.options:
             takes = f" -x -a {quoted(' '.join(choices(option)))}" if choices(option) else " -r" if option.values else ""
             means = f" -d {quoted(option.means)}" if option.means else ""
-            lines.append(f"complete -c alpha -n '__fish_seen_subcommand_from {it.name}' -l {option.name.lstrip('-')}{takes}{means}")
+            lines.append(f"complete -c alpha -n '__fish_seen_subcommand_from {it.name}' -l "
+                         f"{option.name.lstrip('-')}{takes}{means}")
     return "\n".join(lines) + "\n"

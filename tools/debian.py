@@ -128,7 +128,8 @@ def arrange(stage, archive, version, when):
 
 def describe(stage, version, libc):
     """What dpkg reads: the control file, and the sums of all files."""
-    files = sorted(os.path.relpath(os.path.join(folder, it), stage) for folder, _, found in os.walk(stage) for it in found)
+    files = sorted(os.path.relpath(os.path.join(folder, it), stage) for folder, _, found in os.walk(stage)
+                   for it in found)
     kilobytes = sum(-(-os.path.getsize(os.path.join(stage, it)) // 1024) for it in files)
     control = CONTROL.format(version=version, maintainer=MAINTAINER, kilobytes=kilobytes, libc=libc)
     keep(os.path.join(stage, "DEBIAN/control"), control.encode())

@@ -71,8 +71,8 @@ def longest_chain(crates, cost):
 
 
 def slack_of(crates, cost):
-    """By how much the costliest row of crates through each, each standing on the one before it, is cheaper than the costliest
-    of all: as a part of that one."""
+    """By how much the costliest row of crates through each, each standing on the one before it, is cheaper than the
+    costliest of all: as a part of that one."""
     upto, behind = {}, {it: 0 for it in crates}
     for crate in crates:
         upto[crate] = cost(crate) + max((upto[it] for it in crate.below()), default=0)

@@ -1,12 +1,12 @@
 #!/usr/bin/env python3
-"""Compiles the program without a proof and keeps it as .look/alpha_tool. ./look calls this where the program is missing or
-was made of other sources.
+"""Compiles the program without a proof and keeps it as .look/alpha_tool. ./look calls this where the program is missing
+or was made of other sources.
 
     tools/look.py
 
-The kit's `rt try` compiles a program with checks, runs it and removes it. Here it gets a folder of its own for its temporary
-files. The executable is opened while it stands there, and kept once the run is over and the kept one has answered the same
-words alike. `rt try` waits for no other command of the kit, and no other command waits for it.
+The kit's `rt try` compiles a program with checks, runs it and removes it. Here it gets a folder of its own for its
+temporary files. The executable is opened while it stands there, and kept once the run is over and the kept one has
+answered the same words alike. `rt try` waits for no other command of the kit, and no other command waits for it.
 
 Where the program can't be made the status is 70, and the one that was there before stays.
 """
@@ -63,7 +63,8 @@ def compile_program(room):
     """The bytes of the program, and what it wrote and its status when the kit ran it."""
     with tempfile.TemporaryFile("w+") as wrote, tempfile.TemporaryFile("w+", errors="replace") as said:
         trying = subprocess.Popen(["rt", "try", "--steps", "1", "--", *WORDS], cwd=f"{kit.TOP}/crates/alpha_tool",
-                                  env={**os.environ, "TMPDIR": room}, stdin=subprocess.DEVNULL, stdout=wrote, stderr=said)
+                                  env={**os.environ, "TMPDIR": room}, stdin=subprocess.DEVNULL, stdout=wrote,
+                                  stderr=said)
         try:
             found = watch(trying, room)
         finally:
@@ -84,7 +85,8 @@ def keep(program, answer):
     with open(f"{PROGRAM}.new", "wb") as file:
         file.write(program)
     os.chmod(f"{PROGRAM}.new", 0o755)
-    ran = subprocess.run([f"{PROGRAM}.new", *WORDS], stdin=subprocess.DEVNULL, capture_output=True, text=True, errors="replace")
+    ran = subprocess.run([f"{PROGRAM}.new", *WORDS], stdin=subprocess.DEVNULL, capture_output=True, text=True,
+                         errors="replace")
     if (ran.returncode, ran.stdout) != answer:
         give_up(f"the program that was compiled doesn't run here: status {ran.returncode}\n{ran.stderr}")
     os.replace(f"{PROGRAM}.new", PROGRAM)
@@ -102,7 +104,8 @@ def main():
         stamp = kit.look_at(rt, tool)[0]
         if kit.has_stamp(rt, PROGRAM, stamp):
             return
-        say("compiling the program, for about a minute, once: it is of the same sources as that of ./alpha, and not proved")
+        say("compiling the program, for about a minute, once: it is of the same sources as that of ./alpha, and not "
+            "proved")
         keep(*compile_program(room))
         if kit.look_at(rt, tool)[0] == stamp:
             kit.put_stamp(rt, PROGRAM, stamp)

@@ -1,5 +1,5 @@
-"""The manual pages: of the program, out of docs/commands.md, and of each companion, out of what its source says of it, since
-what Python makes of `--help` differs from one version to the next."""
+"""The manual pages: of the program, out of docs/commands.md, and of each companion, out of what its source says of it,
+since what Python makes of `--help` differs from one version to the next."""
 import ast
 import os
 import re
@@ -35,7 +35,8 @@ def told(text):
 
 
 def rows(table):
-    """The rows of a table, each below its first cell; of others with more than two columns the head says what stands where."""
+    """The rows of a table, each below its first cell; of others with more than two columns the head says what stands
+    where."""
     for first, *others in table.rows:
         yield f".TP\n{told(first)}"
         named = zip(table.header[1:], others)

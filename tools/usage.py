@@ -3,8 +3,8 @@
 
     tools/usage.py NAME [COMMAND]     NAME: alpha or look
 
-Without COMMAND: all commands, the options, the statuses and the pages, each in short. With it: all that the page has on the
-words of that command; where it has no such command the status is 2.
+Without COMMAND: all commands, the options, the statuses and the pages, each in short. With it: all that the page has on
+the words of that command; where it has no such command the status is 2.
 """
 import os
 import re
@@ -48,7 +48,8 @@ def in_short(text):
 
 def entry(head, text, width=INDENT):
     """A head, and its text beside it where there is room, or else below."""
-    wrapped = textwrap.fill(text, WIDTH, initial_indent=" " * width, subsequent_indent=" " * width, break_on_hyphens=False)
+    wrapped = textwrap.fill(text, WIDTH, initial_indent=" " * width, subsequent_indent=" " * width,
+                            break_on_hyphens=False)
     head = f"  {head}"
     return head + wrapped[len(head):] if len(head) < width else f"{head}\n{wrapped}"
 
@@ -60,7 +61,8 @@ def options(rows):
 
 def usage(name):
     commands, of_run = tables_under("The words")[:2]
-    yield from (f"{'usage:' if at == 0 else '':7}{words.format(name=name):26}{what}" for at, (words, what) in enumerate(HEAD))
+    yield from (f"{'usage:' if at == 0 else '':7}{words.format(name=name):26}{what}"
+                for at, (words, what) in enumerate(HEAD))
     yield "\nCommands:"
     yield from (entry(plain(words), in_short(what)) for words, what in commands)
     yield "\nOptions of run:"

@@ -1,4 +1,5 @@
-"""Holds an archive, or a package, against its sources: it is made anew out of the commit that it names, and compared."""
+"""Holds an archive, or a package, against its sources: it is made anew out of the commit that it names, and
+compared."""
 import gzip
 import io
 import os
@@ -74,7 +75,8 @@ def verify(path, given):
         program = os.path.abspath(given) if given else build(tree)
         here = sum_of(read(program))
         if here != said.get("program"):
-            print(f"{path}: another program: it names {said.get('program')}, made by {said.get('kit')}, and here is {here}"
+            print(f"{path}: another program: it names {said.get('program')}, made by {said.get('kit')}, and here is "
+                  f"{here}"
                   + ("" if given else f", made by {archive.of_shell('made').rpartition('kit ')[2]}"))
             return 1
         return compare(path, content, theirs, make_anew(room, tree, program, proved, os.path.basename(path)))
@@ -101,7 +103,8 @@ def make_anew(room, tree, program, proved, name):
     """The path of the file of that name, made in the clone by its own tools, and by what PROVED says of the gate."""
     record, folder = os.path.join(room, "record"), os.path.join(room, "made")
     with open(record, "w", encoding="utf-8") as file:
-        file.writelines(line for line in proved.splitlines(keepends=True) if line.split(" ")[0] not in ("version", "needs"))
+        file.writelines(line for line in proved.splitlines(keepends=True)
+                        if line.split(" ")[0] not in ("version", "needs"))
     how = ["--trial"] if spelled(proved).get("gate", "").startswith("none") else ["--gate", record]
     words = [sys.executable, os.path.join(tree, "tools/release"), "-o", folder, "--program", program, *how]
     done = subprocess.run(words, stdin=subprocess.DEVNULL, capture_output=True, text=True, check=False)
@@ -137,7 +140,8 @@ def differences(theirs, ours):
         if len(there) != len(here):
             lines.append(f"{name}: {len(there)} there, {len(here)} here")
         elif there != here:
-            lines.append(f"{name}: other {'bytes' if [it[2] for it in there] != [it[2] for it in here] else 'modes, owners or times'}")
+            is_same = [it[2] for it in there] == [it[2] for it in here]
+            lines.append(f"{name}: other {'modes, owners or times' if is_same else 'bytes'}")
     if not lines:
         lines = ["the files are in another order, or something is beside them"]
     return lines[:MOST_TOLD] + [f"and {len(lines) - MOST_TOLD} more"] * (len(lines) > MOST_TOLD)

@@ -20,12 +20,14 @@ def version():
         raise Refused(f"VERSION is {said}, and the first version of CHANGELOG.md another one")
     for (newer, changes), (older, _) in zip(found, found[1:]):
         if newer < least_after(older, BREAKS in changes):
-            raise Refused(f"CHANGELOG.md: {'.'.join(map(str, newer))} is too low a version behind {'.'.join(map(str, older))}")
+            raise Refused(f"CHANGELOG.md: {'.'.join(map(str, newer))} is too low a version behind "
+                          f"{'.'.join(map(str, older))}")
     return said
 
 
 def least_after(older, breaks):
-    """The least version behind an older one. Before 1.0.0 the second number rises where something breaks, and then the first."""
+    """The least version behind an older one. Before 1.0.0 the second number rises where something breaks, and then the
+    first."""
     major, minor, patch = older
     if not breaks:
         return major, minor, patch + 1

@@ -1,1 +1,2 @@
-"""Definitions that run: the definitions of the clauses of accepted code, translated into Python by a program, and run."""
+"""Definitions that run: the definitions of the clauses of accepted code, translated into Python by a program, and
+run."""

@@ -23,5 +23,6 @@ class Asked:
             with open(os.path.join(self.folder.name, name), "wb") as file:
                 file.write(content)
         self.calls += 1
-        done = subprocess.run([self.path, *words], input=given, capture_output=True, check=False, cwd=self.folder.name, timeout=60)
+        done = subprocess.run([self.path, *words], input=given, capture_output=True, check=False, cwd=self.folder.name,
+                              timeout=60)
         return done.returncode, done.stdout, done.stderr

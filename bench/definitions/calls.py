@@ -22,7 +22,8 @@ class Device:
 
 # What can be told of a device, by the ghosts of its trait: each tells what it holds by a name of its own.
 FAULTS = {"faults": lambda device: device.faults}
-SHELF = record(files=lambda device: device.told, takes=lambda device: device.takes, replies=lambda device: device.replies, **FAULTS)
+SHELF = record(files=lambda device: device.told, takes=lambda device: device.takes,
+               replies=lambda device: device.replies, **FAULTS)
 SOURCE = record(left=lambda device: device.told, replies=lambda device: device.replies, **FAULTS)
 SINK = record(written=lambda device: device.told, **FAULTS)
 
@@ -35,7 +36,8 @@ def told(files):
 def shelf_that_gave(d, told, *replies):
     """What a call did to a shelf that tells this, and replied so behind what it had replied before."""
     before = (("Kept", tuple(b"FILE"), (1,), True),)
-    return d("alpha_io.Shelved.shelved")(SHELF, Device(told, replies=before), Device(told, replies=before + replies))
+    return d("alpha_io.ShelfChange.shelf_change")(SHELF, Device(told, replies=before),
+                                                  Device(told, replies=before + replies))
 
 
 def pieces_of(name, pieces):
@@ -51,8 +53,10 @@ def words_of(*texts):
 def call_of(d, files, given, left, out, notes, **changed):
     """What a call did to its devices, by the devices before and after it."""
     takes = object()
-    old = {"shelf": Device(told(files), takes=takes), "input": Device(some(tuple(given))), "out": Device(some((9,))), "notes": Device(some((8,)))}
-    new = {"shelf": Device(told(files), takes=takes), "input": Device(some(tuple(left))), "out": Device(some((9, *out))),
+    old = {"shelf": Device(told(files), takes=takes), "input": Device(some(tuple(given))), "out": Device(some((9,))),
+           "notes": Device(some((8,)))}
+    new = {"shelf": Device(told(files), takes=takes), "input": Device(some(tuple(left))),
+           "out": Device(some((9, *out))),
            "notes": Device(some((8, *notes)))}
     for name, device in changed.items():
         moment, _, part = name.partition("_")
@@ -66,12 +70,14 @@ def status_by(number, end):
 
 
 class Ran:
-    name, about = "clauses of run", "`ran_told` and `alike` of calls of the program as they were, and with something else"
+    name, about = ("clauses of run",
+                   "`ran_told` and `alike` of calls of the program as they were, and with something else")
     counts = {"sample": 50, "whole": 1_500}
     is_quick = False
     ASKED = ("run FILE", "run FILE", "run --imprecise FILE", "run --imprecise FILE", "run --imprecise --seed 7 FILE",
              "run --force --imprecise FILE", "run --imprecise --choices CHOICES FILE")
-    WAYS = ("as it was", "no memory", "drawn", "status", "output", "notes", "left", "files", "file", "device", "full", "refused", "unknown")
+    WAYS = ("as it was", "no memory", "drawn", "status", "output", "notes", "left", "files", "file", "device", "full",
+            "refused", "unknown")
 
     def cases(self, chooser, count, asked):
         for n in range(count):
@@ -89,19 +95,21 @@ class Ran:
         whole, words, given, number, out, notes, way = case
         d.forget()
         parts, content = parts_of(whole), whole.spelled()
-        program = record(image=parts, how=("Wrap",))
+        program = record(image=parts, completion=("Wrap",))
         run = d("alpha_seq.Run.sequential")(program, tuple(given), 2_000, False)
         files, left = {b"FILE": content, b"other": b"x", b"CHOICES": bytes(range(64))}, run.left
         self.hand_in(d, parts)
         status, call, wanted = self.altered(d, way, whole, files, given, left, number, out, notes, run.end)
-        is_plain, words = len(words) == 2 or words[1:-1] == ("--imprecise",), words_of(*(text.encode() for text in words))
+        is_plain, words = (len(words) == 2 or words[1:-1] == ("--imprecise",),
+                           words_of(*(text.encode() for text in words)))
         found = d("alpha_cmd.ToldRun.RanTold")(words, status, call), d("alpha_cmd.Alike.Alike")(words, status, call)
         expected = wanted or not is_plain, wanted
         return "" if found == expected else f"{way} of {content.hex()}: {found}, and {expected} is wanted"
 
     def altered(self, d, way, whole, files, given, left, number, out, notes, end):
-        """The status and the call, with something else in it, and whether the clauses hold of that. They say nothing of another
-        file, nor where a device failed or its count can't rise, nor of code that is refused, nor where the input isn't told."""
+        """The status and the call, with something else in it, and whether the clauses hold of that. They say nothing of
+        another file, nor where a device failed or its count can't rise, nor of code that is refused, nor where the
+        input isn't told."""
         status, more = status_by(number, end), call_of(d, files, given, left, out + b"x", notes)
         part = ("shelf", "input", "out", "notes")[len(out) % 4]
         if way == "no memory":
@@ -115,19 +123,24 @@ class Ran:
         if way == "left":
             return status, call_of(d, files, given, left + (1,), out, notes), False
         if way == "files":
-            return status, call_of(d, files, given, left, out, notes, new_shelf=Device(told({b"FILE": files[b"FILE"]}))), False
+            return (status,
+                    call_of(d, files, given, left, out, notes, new_shelf=Device(told({b"FILE": files[b"FILE"]}))),
+                    False)
         if way == "file":
             return status, call_of(d, {b"FILE": files[b"FILE"] + b"x"}, given, left, out + b"x", notes), True
         if way == "device":
             return status, more._replace(**{part: getattr(more, part)._replace(now=1)}), True
         if way == "full":
-            return status, more._replace(**{part: getattr(more, part)._replace(before=LAST_COUNT, now=LAST_COUNT)}), True
+            return (status, more._replace(**{part: getattr(more, part)._replace(before=LAST_COUNT, now=LAST_COUNT)}),
+                    True)
         if way == "refused":
             refused = drawn.refused(whole)
             self.hand_in(d, parts_of(refused))
             return status, call_of(d, {**files, b"FILE": refused.spelled()}, given, left, out + b"x", notes), True
         if way == "unknown":
-            return status, call_of(d, files, given, left, out + b"x", notes, old_input=Device(NONE), new_input=Device(NONE)), True
+            return (status,
+                    call_of(d, files, given, left, out + b"x", notes, old_input=Device(NONE), new_input=Device(NONE)),
+                    True)
         drew = ("Done", 77) if way == "drawn" and status[0] == "Done" else status
         return drew, call_of(d, files, given, left, out, notes), True
 
@@ -164,10 +177,13 @@ class Checked:
         whole_file = pieces_of(b"FILE", (content, ()))
         accepted = is_accepted or None
         for files, replies, number, wanted in (
-                (told({b"FILE": content}), whole_file, 0, accepted), (told({b"FILE": content + (0,)}), whole_file, 0, False),
+                (told({b"FILE": content}), whole_file, 0, accepted),
+                (told({b"FILE": content + (0,)}), whole_file, 0, False),
                 (told({}), whole_file, 0, False), (told({}), (), 1, True), (NONE, whole_file, 0, accepted),
-                (NONE, pieces_of(b"FILE", (*halves, ())), 0, accepted), (NONE, pieces_of(b"FILE", (content + (0,), ())), 0, False),
-                (NONE, pieces_of(b"other", (content, ())), 0, False), (NONE, whole_file[:1], 0, False), (NONE, (), 0, False),
+                (NONE, pieces_of(b"FILE", (*halves, ())), 0, accepted),
+                (NONE, pieces_of(b"FILE", (content + (0,), ())), 0, False),
+                (NONE, pieces_of(b"other", (content, ())), 0, False), (NONE, whole_file[:1], 0, False),
+                (NONE, (), 0, False),
                 (NONE, whole_file * 2, 0, False), (NONE, pieces_of(b"FILE", halves[:1]) + whole_file[1:], 0, False)):
             answer = DONE if number == 0 else ("BadWords",)
             given = {d(name)(words, answer, shelf_that_gave(d, files, *replies)) for name in CHECKS}
@@ -181,9 +197,10 @@ class Spoken:
     name, about = "words of commands", "what words ask for: worked ones, and random ones as the program takes them"
     counts = {"sample": 160, "whole": 4_000}
     is_quick = False
-    PIECES = ("run", "check", "FILE", "--imprecise", "--force", "--watch", "--steps", "5", "--steps=7", "--steps=", "--complete", "stop",
-              "--complete=wrap", "--complete=no", "--seed", "--seed=3", "--seed=00000000000000000018446744073709551615", "18446744073709551616",
-              "--choices", "--choices=CHOICES", "--", "-x", "--wat", "-", "", "--steps=18446744073709551615", "--watch=1", "--force", "saturate")
+    PIECES = ("run", "check", "FILE", "--imprecise", "--force", "--watch", "--steps", "5", "--steps=7", "--steps=",
+              "--complete", "stop", "--complete=wrap", "--complete=no", "--seed", "--seed=3",
+              "--seed=00000000000000000018446744073709551615", "18446744073709551616", "--choices", "--choices=CHOICES",
+              "--", "-x", "--wat", "-", "", "--steps=18446744073709551615", "--watch=1", "--force", "saturate")
 
     def cases(self, chooser, count, asked):
         for _ in range(count):
@@ -200,7 +217,8 @@ class Spoken:
         texts, wanted, is_command = case
         words = words_of(*(text.encode() for text in texts))
         alone = {"run": "Run", "record": "Record"}.get(texts[0])
-        spoken = d(f"alpha_request.Commands.{alone}.spoken")() if alone else d("alpha_request.Commands.OfImage.spoken")(("Check",))
+        spoken = (d(f"alpha_request.Commands.{alone}.spoken")() if alone
+                  else d("alpha_request.Commands.OfImage.spoken")(("Check",)))
         rows = d("alpha_request.Matched.matches_on")(spoken.app, words)
         command = spoken.made(rows[1]) if rows != NONE else NONE
         if (command != NONE) != is_command:
@@ -214,7 +232,8 @@ class Spoken:
         kind, *parts = command[1]
         if kind == "run":
             options, file = parts
-            given = d("alpha_request.Commands.Run.Asks")(words, options, file), not d("alpha_request.Commands.Run.Asks")(words, options, file + (1,))
+            given = (d("alpha_request.Commands.Run.AsksToRun")(words, options, file),
+                     not d("alpha_request.Commands.Run.AsksToRun")(words, options, file + (1,)))
         elif kind == "imprecise":
             options, origin, force, file = parts
             asks = d("alpha_request.Commands.Run.AsksImprecise")
@@ -222,8 +241,8 @@ class Spoken:
         elif kind == "record_run":
             return ""
         else:
-            given = d("alpha_request.Commands.OfImage.Asks")(("Check",), words, parts[1]), \
-                not d("alpha_request.Commands.OfImage.Asks")(("Dis",), words, parts[1])
+            given = d("alpha_request.Commands.OfImage.AsksOfImage")(("Check",), words, parts[1]), \
+                not d("alpha_request.Commands.OfImage.AsksOfImage")(("Dis",), words, parts[1])
         return "" if all(given) else f"{words}: {given}"
 
 
@@ -231,14 +250,21 @@ FILE = tuple(b"FILE")
 DEFAULT = options_of("wrap", 100_000_000, False)
 # Words, and what they ask for by docs/commands.md; None where they are no command.
 WORKED = [
-    ("run FILE", ("run", DEFAULT, FILE)), ("check FILE", ("of_image", ("Check",), FILE)), ("check", None), ("run", None),
-    ("check -- --x", ("of_image", ("Check",), tuple(b"--x"))), ("check - -", None), ("check -", ("of_image", ("Check",), tuple(b"-"))),
-    ("run --steps 5 FILE", ("run", options_of("wrap", 5, False), FILE)), ("run FILE --steps=005", ("run", options_of("wrap", 5, False), FILE)),
-    ("run --complete stop --watch FILE", ("run", options_of("stop", 100_000_000, True), FILE)), ("run --complete=up FILE", None),
-    ("run --complete saturate FILE", ("run", options_of("saturate", 100_000_000, False), FILE)), ("run --seed 1 FILE", None),
+    ("run FILE", ("run", DEFAULT, FILE)), ("check FILE", ("of_image", ("Check",), FILE)), ("check", None),
+    ("run", None),
+    ("check -- --x", ("of_image", ("Check",), tuple(b"--x"))), ("check - -", None),
+    ("check -", ("of_image", ("Check",), tuple(b"-"))),
+    ("run --steps 5 FILE", ("run", options_of("wrap", 5, False), FILE)),
+    ("run FILE --steps=005", ("run", options_of("wrap", 5, False), FILE)),
+    ("run --complete stop --watch FILE", ("run", options_of("stop", 100_000_000, True), FILE)),
+    ("run --complete=up FILE", None),
+    ("run --complete saturate FILE", ("run", options_of("saturate", 100_000_000, False), FILE)),
+    ("run --seed 1 FILE", None),
     ("run --steps 18446744073709551615 FILE", ("run", options_of("wrap", LAST_COUNT, False), FILE)),
-    ("run --steps 18446744073709551616 FILE", None), ("run --steps 000000000000000000001 FILE", None), ("run --steps -3 FILE", None),
-    ("run --force FILE", None), ("run --choices X FILE", None), ("run --watch= FILE", None), ("run --steps 5 --steps 5 FILE", None),
+    ("run --steps 18446744073709551616 FILE", None), ("run --steps 000000000000000000001 FILE", None),
+    ("run --steps -3 FILE", None),
+    ("run --force FILE", None), ("run --choices X FILE", None), ("run --watch= FILE", None),
+    ("run --steps 5 --steps 5 FILE", None),
     ("run --imprecise FILE", ("imprecise", DEFAULT, ("seed", 0), False, FILE)),
     ("run --imprecise --seed 3 --force FILE", ("imprecise", DEFAULT, ("seed", 3), True, FILE)),
     ("run FILE --imprecise --choices=-x", ("imprecise", DEFAULT, ("file", tuple(b"-x")), False, FILE)),
@@ -247,5 +273,6 @@ WORKED = [
     ("record FILE --seed=5 --steps 9 J", ("record_run", options_of("wrap", 9, False), ("seed", 5), False, FILE, (74,))),
     ("record --choices X FILE --force J", ("record_run", DEFAULT, ("file", (88,)), True, FILE, (74,))),
     ("record --complete wrap -- FILE J", ("record_run", DEFAULT, ("seed", 0), False, FILE, (74,))),
-    ("run --imprecise --seed 3 --choices X FILE", None), ("run --imprecise --seed x FILE", None), ("run --imprecise --imprecise FILE", None),
+    ("run --imprecise --seed 3 --choices X FILE", None), ("run --imprecise --seed x FILE", None),
+    ("run --imprecise --imprecise FILE", None),
 ]

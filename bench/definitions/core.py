@@ -1,7 +1,8 @@
 """Definitions with every name resolved: what translate.py and solving.py go by.
 
-`Resolver` makes these of the trees of reader.py. A variable has a name of its own in the whole program, so that a body can
-be put in the place of a call. Facts are terms like any other, whose value is a truth; types stand only behind binders.
+`Resolver` makes these of the trees of reader.py. A variable has a name of its own in the whole program, so that a body
+can be put in the place of a call. Facts are terms like any other, whose value is a truth; types stand only behind
+binders.
 """
 import itertools
 import re
@@ -93,7 +94,8 @@ def replaced(term, old, new):
         return {name: replaced(part, old, new) for name, part in term.items()}
     if isinstance(term, list):
         return [replaced(part, old, new) for part in term]
-    if isinstance(term, tuple) and not isinstance(term, (Var, Value, Use, Case, Native, Type)) and hasattr(term, "_fields"):
+    if (isinstance(term, tuple) and not isinstance(term, (Var, Value, Use, Case, Native, Type))
+        and hasattr(term, "_fields")):
         return type(term)(*(replaced(part, old, new) for part in term))
     return term
 
@@ -242,7 +244,8 @@ class Resolver:
             return self.name(tree, {})
         if isinstance(tree, Apply) and isinstance(tree.head, Name):
             head = self.name(tree.head, {})
-            return Call(head, [self.pattern(part, scope, one) for part, one in zip(tree.arguments, self.inside(head, of))])
+            return Call(head,
+                        [self.pattern(part, scope, one) for part, one in zip(tree.arguments, self.inside(head, of))])
         if isinstance(tree, Pair):
             return Tuple([self.pattern(part, scope) for part in tree.parts])
         return self.refuse(tree, "a pattern of another form")

@@ -6,11 +6,11 @@ CLAUSES = [("alpha_restart", "laws_of_restarts", "accepted"), ("alpha_cmd", "alp
            ("alpha_cmd", "alpha_top", "ran"), ("alpha_cmd", "alpha_top", "alike"),
            ("alpha_cmd", "alpha_top", "restarts"), ("alpha_cmd", "alpha_top", "ran_told")]
 # Definitions of answers, which are run beside those.
-ANSWERS = [("Rattle.alpha_cmd.specs.Commands.Imprecise", "answer_wild"),
+ANSWERS = [("Rattle.alpha_cmd.specs.Commands.Imprecise", "answer_imprecise"),
            ("Rattle.alpha_cmd.specs.Commands.Imprecise", "run_by")]
 
-# The domain of a variable, by DEFINITION.VARIABLE: an expression over variables in braces, and `given`, by which the runner
-# hands in what is tried.
+# The domain of a variable, by DEFINITION.VARIABLE: an expression over variables in braces, and `given`, by which the
+# runner hands in what is tried.
 DOMAINS = {
     # No place past the end of the code holds a word, and the last that a condition speaks of is the end itself.
     "IsAccepted.trigger": "range(len({code}) + 1)", "IsAccepted.at": "range(len({code}) + 2)",

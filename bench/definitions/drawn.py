@@ -8,7 +8,8 @@ TRIGGERS = [name for name in OPERATES if name.endswith("/v")]
 PLAIN = [name for name in OPERATES if not name.endswith("/v")]
 TRAPB, CALLSYS = 0x63FF0000, 0x83
 CODE, DATA, STACK = 0x10000, 0x10000000, 64
-EDGES = (0, 1, 2, 3, 7, 8, 31, 32, 63, 127, 128, 255, 1 << 15, (1 << 31) - 1, 1 << 31, (1 << 32) - 1, (1 << 63) - 1, 1 << 63,
+EDGES = (0, 1, 2, 3, 7, 8, 31, 32, 63, 127, 128, 255, 1 << 15, (1 << 31) - 1, 1 << 31, (1 << 32) - 1, (1 << 63) - 1,
+         1 << 63,
          (1 << 64) - 1, (1 << 64) - (1 << 31), 0x8000000080000000, 0x0123456789ABCDEF, 0xFF00FF00FF00FF00)
 LARGE = ((1 << 63) - 1, 1 << 63, (1 << 63) - 5, 0x7FFFFFFF7FFFFFFF, 0x8000000080000000, 0x7000000070000000, 0x80000001)
 
@@ -69,13 +70,15 @@ def word(chooser, registers, bases, level=1):
     kind = chooser.random()
     if kind < 0.2:
         # One whose sources mostly are large, and whose destination is none of them.
-        return operate(chooser.choice(TRIGGERS), chooser.choice((1, 2, 3, 4)), chooser.choice((1, 2, 3, 4)), chooser.choice((6, 7, 7)))
+        return operate(chooser.choice(TRIGGERS), chooser.choice((1, 2, 3, 4)), chooser.choice((1, 2, 3, 4)),
+                       chooser.choice((6, 7, 7)))
     if kind < 0.28:
         return operate_word(chooser, TRIGGERS, registers)
     if kind < 0.52:
         return operate_word(chooser, [name for name in PLAIN if level == 2 or name not in table.LEVEL_TWO], registers)
     if kind < 0.56:
-        return memory(chooser.choice(("lda", "ldah")), chooser.choice(registers), chooser.choice(registers), chooser.randrange(-3, 9))
+        return memory(chooser.choice(("lda", "ldah")), chooser.choice(registers), chooser.choice(registers),
+                      chooser.randrange(-3, 9))
     if kind < 0.76:
         return access_word(chooser, registers, LOOSE, bases)
     if kind < 0.86:
@@ -85,7 +88,8 @@ def word(chooser, registers, bases, level=1):
     if kind < 0.91:
         return jump(chooser.randrange(4), chooser.choice(registers), chooser.choice(bases), chooser.getrandbits(14))
     if kind < 0.995:
-        return chooser.choice((TRAPB, TRAPB, TRAPB | 0x400, 0x63FF4000, 0x63FF4400, 0x63E88000, 0x63EAA000, 0x86, 0x9E, 0x9F))
+        return chooser.choice((TRAPB, TRAPB, TRAPB | 0x400, 0x63FF4000, 0x63FF4400, 0x63E88000, 0x63EAA000, 0x86, 0x9E,
+                               0x9F))
     return chooser.choice((0x80, 0x81, 0xAA, CALLSYS, 0x9E, 0x9F))
 
 
@@ -110,7 +114,8 @@ def repaired(words, most=400):
 
 def refused(whole):
     """The image with code behind its own that breaks a condition."""
-    return image.Image([*whole.words, operate("addq/v", 1, 2, 3)], whole.code_base, whole.entry, whole.segments, whole.stack)
+    return image.Image([*whole.words, operate("addq/v", 1, 2, 3)], whole.code_base, whole.entry, whole.segments,
+                       whole.stack)
 
 
 def call(chooser):
@@ -119,19 +124,22 @@ def call(chooser):
     descriptor = chooser.choice((0, 1) if which != 3 else (0, 0, 0, 1))
     descriptor = 1 if which == 4 and chooser.random() < 0.8 else descriptor
     count = chooser.choice((0, 1, 3, 8, 16, 40))
-    return [memory("lda", 0, 31, which), memory("lda", 16, 31, descriptor), memory("lda", 17, chooser.choice((5, 5, 5, 31)),
+    return [memory("lda", 0, 31, which), memory("lda", 16, 31, descriptor),
+            memory("lda", 17, chooser.choice((5, 5, 5, 31)),
             chooser.choice((0, 4, 8))), memory("lda", 18, 31, count), CALLSYS]
 
 
 def program(chooser, is_accepted, level=1, front=0):
-    """An image whose code loads registers from its data and goes on with random words, some of them system calls. So many
-    words stand in front of its entry."""
+    """An image whose code loads registers from its data and goes on with random words, some of them system calls. So
+    many words stand in front of its entry."""
     start = [memory("ldah", 5, 31, 0x1000)] + [memory("ldq", n, 5, 8 * n) for n in (1, 2, 3, 4)]
     body = []
     for _ in range(chooser.randrange(3, 22)):
-        body += call(chooser) if chooser.random() < 0.06 else [word(chooser, (1, 2, 3, 4, 6, 6, 7, 7, 8, 8, 31), (5,) * 8 + (30,) * 8 + (27, 27, 2), level)]
+        body += (call(chooser) if chooser.random() < 0.06
+                 else [word(chooser, (1, 2, 3, 4, 6, 6, 7, 7, 8, 8, 31), (5,) * 8 + (30,) * 8 + (27, 27, 2), level)])
     end = [TRAPB] if chooser.random() < 0.9 else []
-    end += [memory("lda", 0, 31, 4), memory("lda", 16, 31, 1), operate("bis", 31, 5, 17), memory("lda", 18, 31, 48), CALLSYS]
+    end += [memory("lda", 0, 31, 4), memory("lda", 16, 31, 1), operate("bis", 31, 5, 17), memory("lda", 18, 31, 48),
+            CALLSYS]
     end += [operate("bis", 31, 1, 16), memory("lda", 0, 31, 1), CALLSYS]
     words = start + body + end
     words = repaired(words) if is_accepted else words

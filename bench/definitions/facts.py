@@ -31,7 +31,8 @@ def put(before, now):
     return record(old=some((1,)), new=some((1, 2)), before=before, now=now)
 
 
-SMALL = record(image=parts_of(image.Image([drawn.operate("addq/v", 1, 2, 3)], drawn.CODE, drawn.CODE, [], 64, 1)), how=("Wrap",))
+SMALL = record(image=parts_of(image.Image([drawn.operate("addq/v", 1, 2, 3)], drawn.CODE, drawn.CODE, [], 64, 1)),
+               completion=("Wrap",))
 BEHIND = parts_of(image.Image([WORD] * 4, drawn.CODE, drawn.CODE + 8, [], 64, 1))
 # A load and a store behind a trigger, by one base and with no byte in common.
 APART = (drawn.operate("addq/v", 1, 2, 7), drawn.memory("ldq", 8, 5, 8), drawn.memory("stq", 3, 5, 16), drawn.TRAPB)
@@ -42,42 +43,54 @@ WORKED = [
     ("alpha_io.Files.KeepsFiles", (NONE, NONE), True), ("alpha_io.Files.KeepsFiles", (NONE, ONE), False),
     ("alpha_io.Files.KeepsFiles", (ONE, NONE), False), ("alpha_io.Files.KeepsFiles", (ONE, ONE), True),
     ("alpha_io.Files.KeepsFiles", (ONE, TWO), False), ("alpha_io.Files.KeepsFiles", (TWO, ONE), False),
-    ("alpha_io.Files.KeepsOtherFiles", (NONE, NONE, FILE), True), ("alpha_io.Files.KeepsOtherFiles", (NONE, ONE, FILE), False),
-    ("alpha_io.Files.KeepsOtherFiles", (ONE, NONE, FILE), False), ("alpha_io.Files.KeepsOtherFiles", (ONE, TWO, OTHER), True),
-    ("alpha_io.Files.KeepsOtherFiles", (ONE, TWO, FILE), False), ("alpha_io.Files.KeepsOtherFiles", (NO_FILES, ONE, FILE), True),
+    ("alpha_io.Files.KeepsOtherFiles", (NONE, NONE, FILE), True),
+    ("alpha_io.Files.KeepsOtherFiles", (NONE, ONE, FILE), False),
+    ("alpha_io.Files.KeepsOtherFiles", (ONE, NONE, FILE), False),
+    ("alpha_io.Files.KeepsOtherFiles", (ONE, TWO, OTHER), True),
+    ("alpha_io.Files.KeepsOtherFiles", (ONE, TWO, FILE), False),
+    ("alpha_io.Files.KeepsOtherFiles", (NO_FILES, ONE, FILE), True),
     ("alpha_cmd.Kept.HasKept", (("file", FILE, tuple(b"x")), shelved(NO_FILES, ONE)), True),
     ("alpha_cmd.Kept.HasKept", (("file", FILE, tuple(b"y")), shelved(NO_FILES, ONE)), False),
     ("alpha_cmd.Kept.HasKept", (("file", FILE, tuple(b"x")), shelved(NO_FILES, TWO)), False),
     ("alpha_cmd.Kept.HasKept", (("spoilt", OTHER), shelved(ONE, TWO)), True),
     ("alpha_cmd.Kept.HasKept", (("spoilt", FILE), shelved(ONE, TWO)), False),
-    ("alpha_cmd.Kept.HasKept", (("nothing",), shelved(ONE, TWO)), False), ("alpha_cmd.Kept.HasKept", (("nothing",), shelved(ONE, ONE)), True),
+    ("alpha_cmd.Kept.HasKept", (("nothing",), shelved(ONE, TWO)), False),
+    ("alpha_cmd.Kept.HasKept", (("nothing",), shelved(ONE, ONE)), True),
     ("alpha_io.Files.HasFile", (NONE, FILE, ()), True), ("alpha_io.Files.HasFile", (ONE, OTHER, ()), False),
     ("alpha_io.Files.HasFile", (ONE, FILE, tuple(b"x")), True), ("alpha_io.Files.HasFile", (ONE, FILE, ()), False),
     ("alpha_request.Plain.IsPlain", ((),), True), ("alpha_request.Plain.IsPlain", ((45, 1),), False),
     ("alpha_request.Plain.IsPlain", ((46, 45),), True),
     ("alpha_image.Layout.first_segment", ((),), record(base=0, filled=0, zeroed=0)),
     ("alpha_image.Parts.IsByte", (255,), True), ("alpha_image.Parts.IsByte", (256,), False),
-    ("alpha_image.Parts.IsCodeWord", (("One",), WORD), True), ("alpha_image.Parts.IsCodeWord", (("One",), WORD + (1 << 32)), False),
-    ("alpha_image.Parts.IsCodeWord", (("One",), drawn.operate("ctpop", 31, 2, 2)), False), ("alpha_image.Parts.IsCodeWord", (("Two",), drawn.operate("ctpop", 31, 2, 2)), True),
+    ("alpha_image.Parts.IsCodeWord", (("One",), WORD), True),
+    ("alpha_image.Parts.IsCodeWord", (("One",), WORD + (1 << 32)), False),
+    ("alpha_image.Parts.IsCodeWord", (("One",), drawn.operate("ctpop", 31, 2, 2)), False),
+    ("alpha_image.Parts.IsCodeWord", (("Two",), drawn.operate("ctpop", 31, 2, 2)), True),
     ("alpha_image.Rules.FieldsFit", (front(8),), True), ("alpha_image.Rules.FieldsFit", (front(9),), False),
-    ("alpha_image.Parts.place_of", (BEHIND, drawn.CODE - 4), NONE), ("alpha_image.Parts.place_of", (BEHIND, drawn.CODE), some(0)),
-    ("alpha_image.Parts.place_of", (BEHIND, drawn.CODE + 2), NONE), ("alpha_image.Parts.place_of", (BEHIND, drawn.CODE + 12), some(3)),
+    ("alpha_image.Parts.place_of", (BEHIND, drawn.CODE - 4), NONE),
+    ("alpha_image.Parts.place_of", (BEHIND, drawn.CODE), some(0)),
+    ("alpha_image.Parts.place_of", (BEHIND, drawn.CODE + 2), NONE),
+    ("alpha_image.Parts.place_of", (BEHIND, drawn.CODE + 12), some(3)),
     ("alpha_image.Parts.place_of", (BEHIND, drawn.CODE + 16), NONE),
     ("alpha_trap.Scan.place_or_end", (BEHIND, drawn.CODE + 16), some(4)),
     # Register 30 is the last that a mask may name.
     ("alpha_trap.Scan.fits", (APART, 1 << 7 | 1 << 31, 0, 3), True),
     ("alpha_trap.Scan.fits", (APART, 1 << 7 | 1 << 30, 0, 3), False),
-    ("alpha_io.Sunk.Puts", (put(0, 0), (2,)), True), ("alpha_io.Sunk.Puts", (put(0, 1), (2,)), False),
-    ("alpha_io.Sunk.Puts", (put(0, 0), (3,)), False), ("alpha_seq.Notes.register_lines", (REGS,), tuple(REGISTERS.encode())),
+    ("alpha_io.SinkChange.Puts", (put(0, 0), (2,)), True), ("alpha_io.SinkChange.Puts", (put(0, 1), (2,)), False),
+    ("alpha_io.SinkChange.Puts", (put(0, 0), (3,)), False),
+    ("alpha_seq.Notes.register_lines", (REGS,), tuple(REGISTERS.encode())),
     ("alpha_shadow.Broken.IsAccepted", (APART,), True),
     ("alpha_trap.Completed.completed_regs", (("Wrap",), NONE, REGS), REGS),
     ("alpha_trap.Completed.completed_regs", (("Wrap",), some(("idle",)), REGS), REGS),
     ("alpha_values.Bits.pairwise", (lambda x: lambda y: x + y, (1, 2, 3), (4, 5)), (5, 7)),
     ("alpha_values.Bits.pairwise", (lambda x: lambda y: x + y, (1,), (4, 5)), (5,)),
-    ("alpha_request.Commands.OfImage.word_of", (("Debug",),), tuple(b"debug")), ("alpha_request.Commands.OfImage.word_of", (("Dis",),), tuple(b"dis")),
-    ("alpha_cmd.Drawn.but_drawn", (("Done", 9),), ("Done", 0)), ("alpha_cmd.Drawn.but_drawn", (("NoMemory",),), ("NoMemory",)),
-    ("alpha_io.Faults.Calm", (0, 0), True), ("alpha_io.Faults.Calm", (0, 1), False), ("alpha_io.Faults.Calm", (MASK - 1, MASK - 1), True),
-    ("alpha_io.Faults.Calm", (MASK, MASK), False),
+    ("alpha_request.Commands.OfImage.word_of", (("Debug",),), tuple(b"debug")),
+    ("alpha_request.Commands.OfImage.word_of", (("Dis",),), tuple(b"dis")),
+    ("alpha_cmd.Drawn.but_drawn", (("Done", 9),), ("Done", 0)),
+    ("alpha_cmd.Drawn.but_drawn", (("NoMemory",),), ("NoMemory",)),
+    ("alpha_io.Faults.NoFault", (0, 0), True), ("alpha_io.Faults.NoFault", (0, 1), False),
+    ("alpha_io.Faults.NoFault", (MASK - 1, MASK - 1), True),
+    ("alpha_io.Faults.NoFault", (MASK, MASK), False),
     ("alpha_seq.Notes.overflow_line", (0x1F2E3D4C5B6A7988,), tuple(b"overflow 1f2e3d4c5b6a7988\n")),
     ("alpha_seq.Notes.end_line", (("Exit", MASK),), tuple(b"exit 18446744073709551615\n")),
     ("alpha_seq.Notes.end_line", (("Signal", 2, 0x10004),), tuple(b"signal 2 at 0000000000010004\n")),
@@ -91,15 +104,17 @@ WORKED = [
     ("alpha_seq.Step.logging", (state(count=MASK >> 1), 3, 3), state(count=1 << 63, **LOGGED)),
     ("alpha_imprecise.Step.completed", (SMALL, state(), 0), state(count=0, **LOGGED)),
     ("alpha_imprecise.Step.completed", (SMALL, state(count=MASK >> 1), 0), state(count=1 << 63, **LOGGED)),
-    ("alpha_io.Shelved.shelved", (SHELF, Device(1, 2, 3, 7), Device(4, 5, 6, 8)),
+    ("alpha_io.ShelfChange.shelf_change", (SHELF, Device(1, 2, 3, 7), Device(4, 5, 6, 8)),
      record(old=1, new=4, took=3, takes=6, before=2, now=5, past=7, history=8)),
     ("alpha_seq.Devices.drawn", (SOURCE, Device(1, 2, replies=3), Device(4, 5, replies=6)),
      record(old=record(left=1, replies=3), new=record(left=4, replies=6), before=2, now=5)),
-    ("alpha_io.Sunk.sunk", (SINK, Device(1, 2), Device(4, 5)), record(old=1, new=4, before=2, now=5)),
+    ("alpha_io.SinkChange.sink_change", (SINK, Device(1, 2), Device(4, 5)), record(old=1, new=4, before=2, now=5)),
     # No barrier waits.
-    ("alpha_imprecise.Step.spoilt", (NONE, REGS, None), REGS), ("alpha_imprecise.Step.spoilt", (some(("barrier", NONE)), REGS, None), REGS),
+    ("alpha_imprecise.Step.unpredictable_state", (NONE, REGS, None), REGS),
+    ("alpha_imprecise.Step.unpredictable_state", (some(("barrier", NONE)), REGS, None), REGS),
     ("alpha_request.Options.is_there", (NONE,), False), ("alpha_request.Options.is_there", (some(()),), True),
-    ("alpha_request.Options.is_given", (NONE,), False), ("alpha_request.Options.is_given", (some(tuple(b"true")),), True),
+    ("alpha_request.Options.is_given", (NONE,), False),
+    ("alpha_request.Options.is_given", (some(tuple(b"true")),), True),
 ]
 
 
@@ -128,7 +143,8 @@ def called(function, count, arguments):
 
 
 class Follows:
-    """A precise run as a late one: they agree, and where one thing is another one only if nothing says that it is the same."""
+    """A precise run as a late one: they agree, and where one thing is another one only if nothing says that it is the
+    same."""
 
     name, about = "follows", "what `Agrees` says of events, unique value, PC and registers, each changed alone"
     counts = {"sample": 120, "whole": 3_000}
@@ -157,9 +173,11 @@ class Follows:
             state = state._replace(regs=state.regs[:1] + (state.regs[1] ^ 1,) + state.regs[2:])
         elif way != "as it was":
             state = state._replace(**{way: getattr(state, way) + 1})
-        late = record(state=state, pending=NONE, happened=happened)
-        given, wanted = d("alpha_imprecise.Restart.Agrees")(program, start, events, late), self.wanted(way, run.at.event)
-        return "" if given == wanted else f"{whole.spelled().hex()} by {how}: {way} at {run.at.event}: agrees is {given}"
+        late = record(state=state, pending=NONE, last_event=happened)
+        given, wanted = (d("alpha_imprecise.Restart.Agrees")(program, start, events, late),
+                         self.wanted(way, run.at.event))
+        return ("" if given == wanted
+                else f"{whole.spelled().hex()} by {how}: {way} at {run.at.event}: agrees is {given}")
 
     def wanted(self, way, event):
         """Whether they still agree."""
@@ -177,11 +195,13 @@ class Scans:
         for _ in range(count):
             whole = drawn.program(chooser, chooser.random() < 0.5)
             late = Late(whole, "wrap", b"")
-            late.pc = chooser.choice((whole.address(chooser.randrange(len(whole.words) + 2)), chooser.getrandbits(64), whole.code_base + 2, 0))
+            late.pc = chooser.choice((whole.address(chooser.randrange(len(whole.words) + 2)), chooser.getrandbits(64),
+                                      whole.code_base + 2, 0))
             late.mask = sum(1 << n for n in set(chooser.choices((6, 7, 8, 1), k=chooser.choice((0, 1, 1, 1, 2, 2)))))
             yield whole, late.pc, late.mask, late.scan()
 
     def difference(self, d, case):
         whole, pc, mask, wanted = case
         given = d("alpha_trap.Scan.scan")(parts_of(whole), pc, mask)
-        return "" if given == option(wanted) else f"{whole.spelled().hex()}: {given} from {pc:x} by {mask:x}, and {wanted} is wanted"
+        return ("" if given == option(wanted)
+                else f"{whole.spelled().hex()}: {given} from {pc:x} by {mask:x}, and {wanted} is wanted")

@@ -1,4 +1,5 @@
-"""Images: which parts are a good image, and how they are spelled. Against worked images and the built program's answer."""
+"""Images: which parts are a good image, and how they are spelled. Against worked images and the built program's
+answer."""
 import struct
 
 from . import drawn
@@ -22,7 +23,8 @@ def front_of(content):
     else:
         return None
     segments = tuple(record(base=base, filled=filled, zeroed=zeroed) for base, filled, zeroed in segments)
-    return content[7] - 48, record(level=level, code_base=code, entry=entry, words=words, stack=stack, segments=segments)
+    return (content[7] - 48,
+            record(level=level, code_base=code, entry=entry, words=words, stack=stack, segments=segments))
 
 
 class Fronts:
@@ -43,7 +45,8 @@ class Fronts:
 
 
 class Images:
-    name, about = "images", "`IsImage` of damaged parts, by what `check` says of their bytes; spellings and start memory"
+    name, about = ("images",
+                   "`IsImage` of damaged parts, by what `check` says of their bytes; spellings and start memory")
     counts = {"sample": 150, "whole": 6_000}
     is_quick = False
 
@@ -78,9 +81,11 @@ class Images:
         elif way == 5 and whole.segments:
             chooser.choice(whole.segments).base = chooser.choice(bases)
         elif way == 6 and whole.segments:
-            chooser.choice(whole.segments).zeroed = chooser.choice((0, 1, 8192, 1 << 24, (1 << 24) - 48, (1 << 24) - 47))
+            chooser.choice(whole.segments).zeroed = chooser.choice((0, 1, 8192, 1 << 24, (1 << 24) - 48,
+                                                                    (1 << 24) - 47))
         elif way == 7 and whole.level:
-            whole.segments += [image.Segment(drawn.DATA + 8192 * n, b"", n) for n in range(1, chooser.choice((1, 2, 9)))]
+            whole.segments += [image.Segment(drawn.DATA + 8192 * n, b"", n)
+                               for n in range(1, chooser.choice((1, 2, 9)))]
         elif way == 8 and whole.level:
             whole.level = chooser.choice((1, 2, 3))
             whole.words[-1] = chooser.choice((0x70 << 24 | 3 << 24 | 31 << 21 | 0x30 << 5, whole.words[-1]))
@@ -94,17 +99,19 @@ class Images:
             given = False
         if given != is_good:
             return f"{content.hex()}: an image is {given}"
-        if is_good and bytes(d("alpha_image.Parts.spelling")(parts)) != content:
+        if is_good and bytes(d("alpha_image.Parts.image_spelling")(parts)) != content:
             return f"{content.hex()}: spelled otherwise"
         return "" if not is_good else self.memory(d, whole, parts)
 
     def memory(self, d, whole, parts):
         """The blocks of the start, by the image's bytes."""
-        program = record(image=parts, how=("Wrap",))
+        program = record(image=parts, completion=("Wrap",))
         state = d("alpha_seq.Start.start")(program)
         code = b"".join(word.to_bytes(4, "little") for word in whole.words)
-        wanted = [(whole.code_base, code, False)] + [(one.base, one.data + bytes(one.zeroed), True) for one in whole.segments]
+        wanted = ([(whole.code_base, code, False)]
+                  + [(one.base, one.data + bytes(one.zeroed), True) for one in whole.segments])
         wanted.append(((1 << 30) - whole.stack, bytes(whole.stack), True))
         given = [(block.first, bytes(block.bytes), block.writable) for block in state.mem]
-        rest = state.pc == whole.entry, state.regs[27] == whole.entry, state.regs[30] == 1 << 30, sum(map(bool, state.regs)) <= 2
+        rest = (state.pc == whole.entry, state.regs[27] == whole.entry, state.regs[30] == 1 << 30,
+                sum(map(bool, state.regs)) <= 2)
         return "" if given == wanted and all(rest) and state.lock == NONE else f"{whole.spelled().hex()}: another start"

@@ -1,4 +1,5 @@
-"""The library in Python: what natives.py has, against the translation of its text in the kit, or against worked values."""
+"""The library in Python: what natives.py has, against the translation of its text in the kit, or against worked
+values."""
 from .natives import HELPERS, NATIVES
 from .reference import NONE, some
 from .sources import Sources
@@ -24,12 +25,16 @@ BY_TEXT = {
     ("lib.IntN", "◌+ℤ◌"): pairs(INTEGERS, INTEGERS), ("lib.IntN", "◌-ℤ◌"): pairs(INTEGERS, INTEGERS),
     ("lib.IntN", "◌*ℤ◌"): pairs(INTEGERS, INTEGERS), ("lib.IntN", "neg_ℤ"): [(a,) for a in INTEGERS],
     ("lib.IntN", "nat_abs"): [(a,) for a in INTEGERS],
-    ("mathlib.Core.List", "◌++◌"): pairs(LISTS, LISTS), ("mathlib.Core.List", "map"): [(lambda x: x + 1, xs) for xs in LISTS],
+    ("mathlib.Core.List", "◌++◌"): pairs(LISTS, LISTS),
+    ("mathlib.Core.List", "map"): [(lambda x: x + 1, xs) for xs in LISTS],
     ("mathlib.Core.List", "reverse"): [(xs,) for xs in LISTS], ("lib.ListN", "length"): [(xs,) for xs in LISTS],
-    ("lib.ListN", "get_or"): [(xs, n, 99) for xs, n in pairs(LISTS, NUMBERS)], ("lib.ListN", "take"): pairs(NUMBERS, LISTS),
-    ("lib.ListN", "drop"): pairs(NUMBERS, LISTS), ("lib.ListN", "set"): [(xs, n, 99) for xs, n in pairs(LISTS, NUMBERS)],
+    ("lib.ListN", "get_or"): [(xs, n, 99) for xs, n in pairs(LISTS, NUMBERS)],
+    ("lib.ListN", "take"): pairs(NUMBERS, LISTS),
+    ("lib.ListN", "drop"): pairs(NUMBERS, LISTS),
+    ("lib.ListN", "set"): [(xs, n, 99) for xs, n in pairs(LISTS, NUMBERS)],
     ("lib.ListN", "replicate"): pairs(NUMBERS, NUMBERS), ("Rattle.core.specs.List", "slice_get"): pairs(LISTS, NUMBERS),
-    ("Rattle.core.specs.List", "list_any"): pairs([is_odd], LISTS), ("Rattle.core.specs.List", "list_all"): pairs([is_odd], LISTS),
+    ("Rattle.core.specs.List", "list_any"): pairs([is_odd], LISTS),
+    ("Rattle.core.specs.List", "list_all"): pairs([is_odd], LISTS),
     ("Rattle.core.specs.List", "All"): pairs([is_odd], LISTS + ((1, 3), (1, 3, 4), (2, 1))),
     ("Rattle.core.specs.List", "range_with_len"): pairs(NUMBERS, NUMBERS),
     ("Rattle.core.specs.List", "concat"): [(LISTS,), ((),)],
@@ -42,13 +47,17 @@ BY_VALUE = {
     ("Prim.Native.Nat", "◌*◌"): [((6, 7), 42)], ("Prim.Native.Nat", "◌/◌"): [((17, 5), 3), ((4, 5), 0), ((5, 0), 0)],
     ("Prim.Native.Nat", "◌%◌"): [((17, 5), 2), ((4, 5), 4), ((5, 0), 5)],
     ("Prim.Native.Nat", "◌^◌"): [((2, 10), 1024), ((5, 0), 1), ((0, 0), 1)],
-    ("Prim.Native.Nat", "◌<◌"): [((1, 2), True), ((2, 2), False)], ("Prim.Native.Nat", "◌≤◌"): [((2, 2), True), ((3, 2), False)],
+    ("Prim.Native.Nat", "◌<◌"): [((1, 2), True), ((2, 2), False)],
+    ("Prim.Native.Nat", "◌≤◌"): [((2, 2), True), ((3, 2), False)],
     ("Prim.Native.Nat", "min"): [((2, 3), 2)], ("Prim.Native.Nat", "max"): [((2, 3), 3)],
     ("lib.Dec", "eqb"): [((2, 2), True), ((2, 3), False)], ("lib.Dec", "ltb"): [((1, 2), True), ((2, 2), False)],
-    ("lib.Dec", "leb"): [((2, 2), True), ((3, 2), False)], ("Rattle.core.specs.Bool", "◌==◌"): [((2, 2), True), ((2, 3), False)],
-    ("lib.Bits", "bit_and"): [((12, 10), 8)], ("lib.Bits", "bit_or"): [((12, 10), 14)], ("lib.Bits", "bit_xor"): [((12, 10), 6)],
+    ("lib.Dec", "leb"): [((2, 2), True), ((3, 2), False)],
+    ("Rattle.core.specs.Bool", "◌==◌"): [((2, 2), True), ((2, 3), False)],
+    ("lib.Bits", "bit_and"): [((12, 10), 8)], ("lib.Bits", "bit_or"): [((12, 10), 14)],
+    ("lib.Bits", "bit_xor"): [((12, 10), 6)],
     ("lib.IntN", "pos"): [((3,), 3)], ("lib.IntN", "negsuc"): [((0,), -1), ((4,), -5)],
-    ("mathlib.Core.List", "◌∷◌"): [((1, (2, 3)), (1, 2, 3))], ("lib.Chars", "codes"): [(("az",), (97, 122)), (("",), ())],
+    ("mathlib.Core.List", "◌∷◌"): [((1, (2, 3)), (1, 2, 3))],
+    ("lib.Chars", "codes"): [(("az",), (97, 122)), (("",), ())],
     ("mathlib.Core.Path", "◌≡◌"): [((some(1), some(1)), True), ((some(1), NONE), False)],
     ("mathlib.Core.Logic", "◌≢◌"): [((1, 1), False), ((1, 2), True)],
     ("mathlib.Core.Logic", "◌⊎◌"): [((False, True), True), ((False, False), False)],
@@ -58,7 +67,8 @@ BY_VALUE = {
 
 
 class Library:
-    name, about = "library", "lists, numbers and truths as Python has them, by their texts in the kit or by worked values"
+    name, about = ("library",
+                   "lists, numbers and truths as Python has them, by their texts in the kit or by worked values")
     counts = {"sample": 1, "whole": 1}
     is_quick = True
 

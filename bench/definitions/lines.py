@@ -92,7 +92,8 @@ def things(translation, found):
 
 
 def reached(clauses):
-    """The definitions of the repository that clauses reach by names, as bench/reading.py counts them: (module, name)."""
+    """The definitions of the repository that clauses reach by names, as bench/reading.py counts them: (module,
+    name)."""
     found = set()
     for crate, function, clause in clauses:
         rows, names, modules = reading.clauses(crate, function)
@@ -123,7 +124,8 @@ def tell(watch):
 
 
 def held(watch, is_written):
-    """Holds the reading order of docs/theorems.md, which has beside each file how many of its lines ran, or writes it anew."""
+    """Holds the reading order of docs/theorems.md, which has beside each file how many of its lines ran, or writes it
+    anew."""
     files = {str(path.relative_to(TOP)): f"{len(run)}/{len(every)}"
              for path, (every, run) in counted(*watch, data.CLAUSES[:data.READ]).items()}
     text = PAGE.read_text()

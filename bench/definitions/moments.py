@@ -13,7 +13,8 @@ MOST = 60
 
 
 def choice_of(chooser):
-    """Whether a trap is reported, a value, which may be an address, the bytes of a store, and whether the mask grows."""
+    """Whether a trap is reported, a value, which may be an address, the bytes of a store, and whether the mask
+    grows."""
     number = chooser.choice((drawn.number(chooser), drawn.number(chooser), drawn.DATA + 8 * chooser.randrange(5)))
     return chooser.random() < 0.3, number, chooser.choice((number, drawn.number(chooser))), chooser.random() < 0.6
 
@@ -25,16 +26,16 @@ def steps_of(chooser, count=MOST):
 
 
 def moments_of(whole, how, steps):
-    """What the models say of each moment until the run is over: how the last step went, the state, the pending trap, and
-    whether it agrees."""
+    """What the models say of each moment until the run is over: how the last step went, the state, the pending trap,
+    and whether it agrees."""
     late, precise = Late(whole, how), Follower(whole, how)
     for choice, given in steps:
         if late.is_over():
             return
         late.hand(given)
         late.choose(choice)
-        precise.follow(late.happened)
-        yield late.happened, late.state(), late.pending(), agrees(late, precise)
+        precise.follow(late.last_event)
+        yield late.last_event, late.state(), late.pending(), agrees(late, precise)
 
 
 def case_of(whole, how, steps):
@@ -56,18 +57,19 @@ class Moments:
         d.forget()
         program = program_of(whole, how)
         start = d("alpha_seq.Start.start")(program)
-        begun = at = d("alpha_imprecise.Run.begins_wild")(start)
+        begun = at = d("alpha_imprecise.Run.imprecise_start")(start)
         agrees = d("alpha_imprecise.Restart.Agrees")
         went, seen = (), ()
         for (choice, given), moment in zip(steps, wanted):
             choice = record(**dict(zip(("report", "value", "bytes", "adds"), choice)))
-            before, at = at, d("alpha_imprecise.Step.wild")(program, at.state, at.pending, choice, tuple(given))
-            went, seen = went + (at.happened,), seen + d("alpha_imprecise.Run.seen_of")(at.happened)
-            found = at.happened, state_shown(at.state), self.trap(at), agrees(program, start, seen, at)
+            before, at = (at,
+                          d("alpha_imprecise.Step.imprecise_step")(program, at.state, at.pending, choice, tuple(given)))
+            went, seen = went + (at.last_event,), seen + d("alpha_imprecise.Run.seen_of")(at.last_event)
+            found = at.last_event, state_shown(at.state), self.trap(at), agrees(program, start, seen, at)
             if found != moment:
                 return f"{whole.spelled().hex()} by {how}: {found}, and {moment} is wanted"
-            if d("alpha_imprecise.Run.next_wild")(program, before, at.happened) != at:
-                return f"{whole.spelled().hex()} by {how}: {at.happened} says another step"
+            if d("alpha_imprecise.Run.next_step_result")(program, before, at.last_event) != at:
+                return f"{whole.spelled().hex()} by {how}: {at.last_event} says another step"
         return self.run(d, whole, program, begun, went, at)
 
     def trap(self, at):
@@ -75,10 +77,11 @@ class Moments:
 
     def run(self, d, whole, program, begun, went, at):
         """The steps are a run to the last moment and to no other, and none follows its end."""
-        is_run = d("alpha_imprecise.Run.RunsWild")
+        is_run = d("alpha_imprecise.Run.RunsImprecisely")
         is_over = went[-1][0] == "Lost" or went[-1][0] == "Precisely" and went[-1][1][0] == "Ends"
         another, elsewhere = went[:-1] + (("Lost", 1, 1),), at._replace(pending=some(record(place=0, mask=0)))
-        found = (is_run(program, begun, went, at), is_run(program, begun, went, elsewhere), is_run(program, begun, another, at),
+        found = (is_run(program, begun, went, at), is_run(program, begun, went, elsewhere),
+                 is_run(program, begun, another, at),
                  is_over and is_run(program, begun, went + went[-1:], at))
         return "" if found == (True, False, False, False) else f"{whole.spelled().hex()}: runs are {found}"
 
@@ -94,7 +97,8 @@ class Waits:
     def cases(self, chooser, count, asked):
         for name in drawn.ACCESSES:
             for base, displacement in self.PLACES:
-                words = [drawn.memory("ldah", 5, 31, 0x1000), drawn.memory("ldq", 1, 5, 0), drawn.operate("addq/v", 1, 1, 7),
+                words = [drawn.memory("ldah", 5, 31, 0x1000), drawn.memory("ldq", 1, 5, 0),
+                         drawn.operate("addq/v", 1, 1, 7),
                          drawn.memory(name, 8, base, displacement), drawn.TRAPB]
                 segment = image.Segment(drawn.DATA, ((1 << 63) - 1).to_bytes(8, "little") * 3)
                 whole = image.Image(words, drawn.CODE, drawn.CODE, [segment], drawn.STACK, 0)
@@ -134,7 +138,8 @@ class Each:
         store = drawn.memory("stq", other, 5, 8)
         before, behind = [], {
             1: [], 2: [drawn.operate("addq", other, other, source)], 3: [drawn.operate("subq/v", other, other, 7)],
-            4: [drawn.memory("lda", 6, 5, 0), drawn.memory("stq", other, 6, 16)], 5: [drawn.memory("ldq", 6, 5, 8), store],
+            4: [drawn.memory("lda", 6, 5, 0), drawn.memory("stq", other, 6, 16)],
+            5: [drawn.memory("ldq", 6, 5, 8), store],
             6: [drawn.memory("stq_c", 31, 5, 8)], 7: [drawn.branch("br", 31, 1), 0x47FF041F]}[condition]
         if condition == 1:
             trigger = drawn.operate("addq/v", source, source, 31)
@@ -149,13 +154,14 @@ class Each:
         return Moments.difference(self, d, case) or self.clause(d, case)
 
     def clause(self, d, case):
-        """The clause of `check` is false of such code where steps are tried that end where it doesn't agree, and not where
-        they are no run."""
+        """The clause of `check` is false of such code where steps are tried that end where it doesn't agree, and not
+        where they are no run."""
         whole, _, _, wanted = case
         end = next(n for n, moment in enumerate(wanted, 1) if not moment[-1])
         steps = tuple(moment[0] for moment in wanted[:end])
         content = tuple(whole.spelled())
-        words, shelf = (tuple(b"check"), tuple(b"FILE")), calls.shelf_that_gave(d, NONE, *calls.pieces_of(b"FILE", (content, ())))
+        words, shelf = ((tuple(b"check"), tuple(b"FILE")),
+                        calls.shelf_that_gave(d, NONE, *calls.pieces_of(b"FILE", (content, ()))))
         for row, holds in ((steps, False), (steps[:-1] + (("Lost", 1, 1),), True)):
             d.given(images=[parts_of(whole)], steps=[row], names=[], pieces=[(content,)])
             given = [d(name)(words, calls.DONE, shelf) for name in calls.CHECKS]

@@ -1,8 +1,8 @@
 """What isn't translated from a text: numbers, truths, lists and texts, as Python has them.
 
-Each has the number of its arguments and its Python, where `{0}` stands for the first argument. What is written for speed
-alone has its text in the kit, and `tests` holds it against the translation of that text; what is native to the language
-has no text, and is held against values.
+Each has the number of its arguments and its Python, where `{0}` stands for the first argument. What is written for
+speed alone has its text in the kit, and `tests` holds it against the translation of that text; what is native to the
+language has no text, and is held against values.
 """
 from collections import namedtuple
 
@@ -51,7 +51,8 @@ NATIVES = {
     ("lib.Bits", "bit_xor"): term(2, "({0} ^ {1})"),
     # Numbers with a sign: `pos n` is n, `negsuc n` is -(n + 1).
     ("lib.IntN", "ℤ"): kind(), ("lib.IntN", "pos"): term(1, "{0}"), ("lib.IntN", "negsuc"): term(1, "(-{0} - 1)"),
-    ("lib.IntN", "◌+ℤ◌"): term(2, "({0} + {1})", ("left", 6)), ("lib.IntN", "◌-ℤ◌"): term(2, "({0} - {1})", ("left", 6)),
+    ("lib.IntN", "◌+ℤ◌"): term(2, "({0} + {1})", ("left", 6)),
+    ("lib.IntN", "◌-ℤ◌"): term(2, "({0} - {1})", ("left", 6)),
     ("lib.IntN", "◌*ℤ◌"): term(2, "({0} * {1})", ("left", 7)),
     ("lib.IntN", "neg_ℤ"): term(1, "(-{0})"), ("lib.IntN", "nat_abs"): term(1, "abs({0})"),
     # Lists are tuples.
@@ -60,7 +61,8 @@ NATIVES = {
     ("mathlib.Core.List", "List"): kind(), ("mathlib.Core.List", "[]"): term(0, "()"),
     ("mathlib.Core.List", "◌∷◌"): term(2, "({0}, *{1})", ("right", 67)),
     ("mathlib.Core.List", "◌++◌"): term(2, "({0} + {1})", ("left", 65)),
-    ("mathlib.Core.List", "map"): term(2, "tuple(map({0}, {1}))"), ("mathlib.Core.List", "reverse"): term(1, "{0}[::-1]"),
+    ("mathlib.Core.List", "map"): term(2, "tuple(map({0}, {1}))"),
+    ("mathlib.Core.List", "reverse"): term(1, "{0}[::-1]"),
     ("lib.ListN", "length"): term(1, "len({0})"), ("lib.ListN", "get_or"): term(3, "get_or({0}, {1}, {2})"),
     ("lib.ListN", "take"): term(2, "{1}[:{0}]"), ("lib.ListN", "drop"): term(2, "{1}[{0}:]"),
     ("lib.ListN", "set"): term(3, "list_set({0}, {1}, {2})"), ("lib.ListN", "replicate"): term(2, "({1},) * {0}"),
@@ -108,5 +110,6 @@ def flattened(lists):
     return tuple(item for items in lists for item in items)
 
 
-HELPERS = {"quotient": quotient, "remainder": remainder, "power": power, "get_or": get_or, "list_set": list_set, "slice_get": slice_get,
+HELPERS = {"quotient": quotient, "remainder": remainder, "power": power, "get_or": get_or, "list_set": list_set,
+           "slice_get": slice_get,
            "flattened": flattened}

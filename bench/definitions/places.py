@@ -14,7 +14,8 @@ LONGEST = 70
 
 def words_of(text):
     """The words of a worked list, where *N after one repeats it."""
-    return [int(word, 16) for part in text.split() for word, _, count in [part.partition("*")] for _ in range(int(count or 1))]
+    return [int(word, 16) for part in text.split() for word, _, count in [part.partition("*")]
+            for _ in range(int(count or 1))]
 
 
 def least_of(verdict):
@@ -28,7 +29,9 @@ def least_in(broken):
 
 
 class Places:
-    name, about = "places", "the nine conditions at each place of short code, its least broken place, and whether it is accepted"
+    name, about = ("places",
+                   "the nine conditions at each place of short code, its least broken place, and whether it is "
+                   "accepted")
     counts = {"sample": 260, "whole": 8_000}
     is_quick = False
 
@@ -49,13 +52,15 @@ class Places:
     def draw(self, chooser):
         """Some words over few registers, half of them with barriers where they are needed."""
         registers = chooser.choice(((1, 2, 31), (1, 2, 3, 4, 31), (1, 2, 3, 4, 5, 6, 7, 8, 30)))
-        words = drawn.code(chooser, chooser.choice((1, 2, 3, 4, 6, 8, 12, 18)), registers, chooser.choice(((2, 3), (2, 5, 31))))
+        words = drawn.code(chooser, chooser.choice((1, 2, 3, 4, 6, 8, 12, 18)), registers,
+                           chooser.choice(((2, 3), (2, 5, 31))))
         return drawn.repaired(words) if chooser.random() < 0.4 else words
 
     def asked_for(self, asked, words):
         """The program's verdict on the code."""
         level = table.level_of(words)
-        whole = image.Image(words, drawn.CODE, drawn.CODE, [] if level == 2 else [image.Segment(drawn.DATA)], 64, level if level == 2 else 0)
+        whole = image.Image(words, drawn.CODE, drawn.CODE, [] if level == 2 else [image.Segment(drawn.DATA)], 64, level
+                            if level == 2 else 0)
         status, _, notes = asked.call("check", "FILE", FILE=whole.spelled())
         if status == 0:
             return None
@@ -97,7 +102,8 @@ class Longest:
         is_broken = d("alpha_shadow.Broken.IsBroken")
         # The model looks at nothing behind the word that is one too many.
         places = (0, 1, self.ENOUGH - 1, self.ENOUGH, self.ENOUGH + 1)
-        given = {(0, at, n) for at in places for n, condition in enumerate(CONDITIONS, 1) if is_broken(words, 0, at, (condition,))}
+        given = {(0, at, n) for at in places for n, condition in enumerate(CONDITIONS, 1)
+                 if is_broken(words, 0, at, (condition,))}
         return "" if given == broken else f"{len(words)} words: {given}, and {set(broken)} is wanted"
 
 

@@ -1,8 +1,8 @@
 """Reads the text of definitions: tokens, declarations, and expressions as trees.
 
-Only the part of the language that definitions are written in is known here: signatures, equations, data, records, λ, let,
-if, numbers, quoted texts, and types as facts. Whatever else stands in a definition that is wanted is refused with its file
-and line, as `Unknown`. Trees keep the names as they are written; scopes.py says what each of them means.
+Only the part of the language that definitions are written in is known here: signatures, equations, data, records, λ,
+let, if, numbers, quoted texts, and types as facts. Whatever else stands in a definition that is wanted is refused with
+its file and line, as `Unknown`. Trees keep the names as they are written; scopes.py says what each of them means.
 """
 import re
 from collections import namedtuple
@@ -28,8 +28,8 @@ Arrow = namedtuple("Arrow", "left right line")
 Bound = namedtuple("Bound", "kind binders body line")
 Product = namedtuple("Product", "parts line")
 Universe = namedtuple("Universe", "line")
-# A declaration: of a function its type and equations, each (patterns, body, first line, last line); of data its cases, each
-# (name, type, line); of a record its fields, likewise; `parameters` are binders of a data type or a record.
+# A declaration: of a function its type and equations, each (patterns, body, first line, last line); of data its cases,
+# each (name, type, line); of a record its fields, likewise; `parameters` are binders of a data type or a record.
 Declared = namedtuple("Declared", "kind name parameters type parts line")
 
 
@@ -51,7 +51,8 @@ def tokens_of(lines, first):
 def chunks_of(text):
     """The declarations of a file as (first line's number, lines), a block's as if it stood alone."""
     lines = text.split("\n")
-    starts = [n for n, line in enumerate(lines) if line and not line[0].isspace() and not line.startswith(("--", "}", ")"))]
+    starts = [n for n, line in enumerate(lines)
+              if line and not line[0].isspace() and not line.startswith(("--", "}", ")"))]
     for start, end in zip(starts, starts[1:] + [len(lines)]):
         head = lines[start].split(" -- ")[0].rstrip()
         if re.match(r"((abbrev|unfoldable) )?mutual$|module _ .*where$", head):
@@ -184,7 +185,8 @@ class Reader:
 
     def starts_atom(self):
         text = self.text()
-        if text is None or text in (")", "}", ",", ";", ".", "→", "×", "=", ":", "then", "else", "in", "where", "@", "|", "↦"):
+        if text is None or text in (")", "}", ",", ";", ".", "→", "×", "=", ":", "then", "else", "in", "where", "@",
+                                    "|", "↦"):
             return False
         return self.fixity_of(f"◌{text}◌") is None
 
@@ -293,7 +295,8 @@ class Reader:
                     self.refuse("a member of another form")
                 names.append(self.take())
             self.take(":")
-            end = next((n for n in range(self.at, len(self.tokens)) if self.tokens[n].start <= column), len(self.tokens))
+            end = next((n for n in range(self.at, len(self.tokens)) if self.tokens[n].start <= column),
+                       len(self.tokens))
             part = Reader(self.tokens[self.at:end], self.fixity_of, self.path)
             of = part.expression()
             if part.text() is not None:

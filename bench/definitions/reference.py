@@ -1,7 +1,7 @@
 """What runs are held against: the models of companions/parts and bench/worked.py, which were written by the pages.
 
-They say nothing in the definitions' words, so their things are put into these words here: a word's class, an image's parts,
-an answer's status.
+They say nothing in the definitions' words, so their things are put into these words here: a word's class, an image's
+parts, an answer's status.
 """
 import sys
 
@@ -17,11 +17,13 @@ MASK = (1 << 64) - 1
 LOADS = {"ldbu": ("Zero", 1), "ldwu": ("Zero", 2), "ldl": ("Sign", 4), "ldq": ("Zero", 8), "ldq_u": ("Zero", 8),
          "ldl_l": ("Sign", 4), "ldq_l": ("Zero", 8)}
 STORES = {"stb": 1, "stw": 2, "stl": 4, "stq": 8, "stq_u": 8, "stl_c": 4, "stq_c": 8}
-CALLS = {"bpt": "Bpt", "bugchk": "Bugchk", "callsys": "Callsys", "imb": "Imb", "rdunique": "Rdunique", "wrunique": "Wrunique",
+CALLS = {"bpt": "Bpt", "bugchk": "Bugchk", "callsys": "Callsys", "imb": "Imb", "rdunique": "Rdunique",
+         "wrunique": "Wrunique",
          "gentrap": "Gentrap"}
 KINDS = {table.TRIGGER: "Trigger", table.LOAD: "Load", table.STORE: "Store", table.LOCKED: "Locked", table.TURN: "Turn",
          table.BARRIER: "Barrier", table.PLAIN: "Plain"}
-CONDITIONS = ("ZeroDestination", "SourceLost", "SameDestination", "WildBase", "LoadThenStore", "Locked", "Turn", "Open", "Long")
+CONDITIONS = ("ZeroDestination", "SourceLost", "SameDestination", "WildBase", "LoadThenStore", "Locked", "Turn", "Open",
+              "Long")
 COMPLETIONS = {"wrap": ("Wrap",), "saturate": ("Saturate",), "stop": ("Stop",)}
 NONE = ("None",)
 
@@ -92,11 +94,12 @@ def parts_of(whole):
 def broken_in(words):
     """All broken places: (trigger, place, number of the condition)."""
     code = shadows.Code(words)
-    return {(trigger, at, condition) for trigger in code.triggers() for at, condition in shadows.Shadow(code, trigger).broken}
+    return {(trigger, at, condition) for trigger in code.triggers()
+            for at, condition in shadows.Shadow(code, trigger).broken}
 
 
 def program_of(whole, how):
-    return record(image=parts_of(whole), how=COMPLETIONS[how])
+    return record(image=parts_of(whole), completion=COMPLETIONS[how])
 
 
 def status_of(status):
@@ -114,7 +117,7 @@ class Late(machine.Machine):
 
     def __init__(self, whole, how, given=b""):
         super().__init__(whole, how, given)
-        self.event, self.traffic, self.happened = WENT, SILENT, ("Precisely", WENT)
+        self.event, self.traffic, self.last_event = WENT, SILENT, ("Precisely", WENT)
         self.bytes, self.place, self.count = 0, None, 0
 
     def hand(self, given):
@@ -134,25 +137,25 @@ class Late(machine.Machine):
         else:
             adds = adds and word.kind == table.TRIGGER and word.rc != 31
             self.wait(adds, value)
-            self.happened = ("Waited", adds, value, self.bytes)
+            self.last_event = ("Waited", adds, value, self.bytes)
 
     def begin(self, value):
         if self.overflows():
             self.place = self.image.place(self.pc)
             self.trigger(value)
-            self.happened = ("Triggered", value)
+            self.last_event = ("Triggered", value)
         else:
             self.advance()
-            self.happened = ("Precisely", self.event)
+            self.last_event = ("Precisely", self.event)
 
     def tell(self):
         """Reports the pending trap."""
         if self.report() == "overflow":
-            self.happened = ("Reported", self.overflowed_at)
+            self.last_event = ("Reported", self.overflowed_at)
         elif self.end[0] == "lost":
-            self.happened = ("Lost", *self.end[1:])
+            self.last_event = ("Lost", *self.end[1:])
         else:
-            self.happened = ("Precisely", ("Ends", ("Overflow", self.pc)))
+            self.last_event = ("Precisely", ("Ends", ("Overflow", self.pc)))
 
     def spoil(self, word, value):
         super().spoil(word, self.bytes)
@@ -220,8 +223,8 @@ def given_in(event):
 
 
 class Follower(Late):
-    """The precise machine, each of whose reads is given what the same read of a late run was. `follows` says whether all of
-    its events so far are those of the late run."""
+    """The precise machine, each of whose reads is given what the same read of a late run was. `follows` says whether
+    all of its events so far are those of the late run."""
 
     follows = True
 
@@ -236,13 +239,13 @@ class Follower(Late):
 
 def agrees(late, precise):
     """Whether a late run agrees with the precise one that goes by its events."""
-    if late.happened[0] == "Lost":
+    if late.last_event[0] == "Lost":
         return False
     if late.waited is not None:
         return late.scan() == late.place
     if not precise.follows or precise.unique != late.unique:
         return False
-    event = late.happened[1] if late.happened[0] == "Precisely" else WENT
+    event = late.last_event[1] if late.last_event[0] == "Precisely" else WENT
     if event[0] == "Ends" and event[1][0] == "Overflow":
         return precise.pc == late.pc
     return event[0] not in ("Barriered", "Ends") or precise.state() == late.state()

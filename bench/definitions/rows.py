@@ -2,8 +2,8 @@
 
 
 class Rows:
-    """A function of a number that goes by its value at the one below it, whose latest value is kept for the latest other
-    arguments. A value that is the one below it is that of every number above."""
+    """A function of a number that goes by its value at the one below it, whose latest value is kept for the latest
+    other arguments. A value that is the one below it is that of every number above."""
 
     def __init__(self, function):
         self.function, self.known = function, {}

@@ -1,4 +1,5 @@
-"""Answers of `run` and `run --imprecise`: against programs whose output was measured elsewhere, and the built program."""
+"""Answers of `run` and `run --imprecise`: against programs whose output was measured elsewhere, and the built
+program."""
 from . import drawn
 from .reference import NONE, parts_of, program_of, some, status_of
 from .reference import image as images
@@ -13,7 +14,8 @@ def file_bytes(name):
 
 
 def options_of(how, steps, watch):
-    return record(complete={"wrap": ("Wrap",), "saturate": ("Saturate",), "stop": ("Stop",)}[how], steps=steps, watch=watch)
+    return record(complete={"wrap": ("Wrap",), "saturate": ("Saturate",), "stop": ("Stop",)}[how], steps=steps,
+                  watch=watch)
 
 
 def shown(answer):
@@ -22,15 +24,18 @@ def shown(answer):
 
 
 class Programs:
-    name, about = "programs", "random programs and C programs whose output, end, notes and steps were measured elsewhere"
+    name, about = ("programs",
+                   "random programs and C programs whose output, end, notes and steps were measured elsewhere")
     counts = {"sample": 14, "whole": 1_000}
     is_quick = False
 
     def cases(self, chooser, count, asked):
         known = rows("programs.tsv")
-        for name, given, out, notes, last, steps in known if count > len(known) else known[:count // 2] + known[20:20 + count // 2]:
+        for name, given, out, notes, last, steps in (known if count > len(known)
+                                                     else known[:count // 2] + known[20:20 + count // 2]):
             most = MOST_STEPS["whole" if count > len(known) else "sample"]
-            yield (images.read_image(VECTORS / name), file_bytes(given) if (VECTORS / given).exists() else b"", file_bytes(out),
+            yield (images.read_image(VECTORS / name), file_bytes(given) if (VECTORS / given).exists() else b"",
+                   file_bytes(out),
                    None if notes == "-" else file_bytes(notes), last, None if steps == "-" else int(steps), most)
 
     def difference(self, d, case):
@@ -45,7 +50,8 @@ class Programs:
         line = bytes(answer.line).decode().rstrip("\n")
         if (output, line) != (out, last) or steps is not None and run.steps != steps:
             return f"{line!r} after {run.steps} steps with {output[:40]!r}; {last!r} after {steps} is wanted"
-        told = bytes(d("alpha_seq.Run.sequential")(program_of(whole, "wrap"), tuple(given), most, False).notes + answer.line)
+        told = bytes(d("alpha_seq.Run.sequential")(program_of(whole, "wrap"), tuple(given), most, False).notes
+                     + answer.line)
         return "" if notes is None or told == notes else f"notes {told[-60:]!r}, and {notes[-60:]!r} is wanted"
 
 
@@ -82,15 +88,18 @@ class Sequential:
         is_run, fed = d("alpha_seq.Run.Runs"), d("alpha_seq.Run.Fed")
         begun, events, taken = d("alpha_seq.Run.begins")(start), run.events, d("alpha_seq.Run.taken")(run.events)
         reads = any(event[0] == "Barriered" and event[1][0] == "Read" for event in events)
-        found = (is_run(program, begun, events, run.at), d("alpha_seq.Run.ReadNothing")(events), fed(given, events, run.left),
+        found = (is_run(program, begun, events, run.at), d("alpha_seq.Run.ReadNothing")(events),
+                 fed(given, events, run.left),
                  fed(given, events, run.left + (1,)), fed(tuple(byte ^ 1 for byte in given), events, run.left),
-                 run.at.event[0] == "Ends" and is_run(program, begun, events + events[-1:], run.at), taken + run.left == given)
+                 run.at.event[0] == "Ends" and is_run(program, begun, events + events[-1:], run.at),
+                 taken + run.left == given)
         wanted = True, not reads, True, False, not given, False, True
         return "" if found == wanted else f"{program.image} over {given}: {found}, and {wanted} is wanted"
 
 
 class Late:
-    name, about = "run --imprecise", "output, notes and status of `run --imprecise` by words of choices, of random programs"
+    name, about = ("run --imprecise",
+                   "output, notes and status of `run --imprecise` by words of choices, of random programs")
     counts = {"sample": 250, "whole": 8_000}
     is_quick = False
 
@@ -100,7 +109,8 @@ class Late:
             whole = drawn.program(chooser, not is_forced or chooser.random() < 0.3, chooser.choice((1, 1, 2)))
             how, steps = chooser.choice(("wrap", "saturate", "stop")), chooser.choice((0, 2, 9, 30, 100, 100))
             given = bytes(chooser.randrange(256) for _ in range(chooser.choice((0, 5, 30))))
-            chosen = [chooser.choice((drawn.number(chooser), chooser.getrandbits(64), 1, 5, 6)) for _ in range(chooser.choice((0, 9, 60)))]
+            chosen = [chooser.choice((drawn.number(chooser), chooser.getrandbits(64), 1, 5, 6))
+                      for _ in range(chooser.choice((0, 9, 60)))]
             words = ["run", "--imprecise", "--choices", "CHOICES", "--complete", how, "--steps", str(steps)]
             words += ["--force"] * is_forced + ["--watch"] * chooser.choice((0, 1, 1))
             content = b"".join(word.to_bytes(8, "little") for word in chosen)
@@ -112,20 +122,22 @@ class Late:
         d.forget()
         program, given = program_of(whole, how), tuple(given)
         start = d("alpha_seq.Start.start")(program)
-        begun = d("alpha_imprecise.Made.begun")(start, given, NONE, 0, chosen)
-        making = d("alpha_imprecise.Made.made")(program, begun, steps)
-        run = d("alpha_imprecise.Made.imprecise")(program, given, chosen, steps, watch)
-        is_shown = run == d("alpha_imprecise.Made.shown_making")(watch, making)
+        begun = d("alpha_imprecise.ChosenRun.begun")(start, given, NONE, 0, chosen)
+        making = d("alpha_imprecise.ChosenRun.chosen_run")(program, begun, steps)
+        run = d("alpha_imprecise.ChosenRun.imprecise")(program, given, chosen, steps, watch)
+        is_shown = run == d("alpha_imprecise.ChosenRun.shown_chosen_run")(watch, making)
         if not is_shown or not self.is_listed(d, program, start, given, chosen, making):
             return f"{whole.spelled().hex()} by {how}: the list of its steps is another run"
         if not is_forced:
-            run = d("alpha_cmd.Commands.Imprecise.with_drawn")(d("alpha_seq.Run.sequential")(program, given, steps, watch), run.drawn)
-        found = shown(d("alpha_cmd.Commands.Imprecise.answer_wild")(some(given), run))[:3]
+            run = d("alpha_cmd.Commands.Imprecise.with_drawn")(d("alpha_seq.Run.sequential")(program, given, steps,
+                                                                                             watch), run.drawn)
+        found = shown(d("alpha_cmd.Commands.Imprecise.answer_imprecise")(some(given), run))[:3]
         return "" if found == answered else f"{whole.spelled().hex()} by {how}: {found}, and {answered} is wanted"
 
     def is_listed(self, d, program, start, given, chosen, making):
-        """Whether the list of its steps is a run over this input by these words, and over no other input and no others."""
-        run, begun = making.run, d("alpha_imprecise.Run.begins_wild")(start)
+        """Whether the list of its steps is a run over this input by these words, and over no other input and no
+        others."""
+        run, begun = making.run, d("alpha_imprecise.Run.imprecise_start")(start)
         runs_over, draws = d("alpha_imprecise.Run.RunsOver"), d("alpha_imprecise.Chosen.Draws")
         others = run._replace(units=run.units + 1), run._replace(left=run.left + (1,))
         found = [runs_over(program, start, given, one) for one in (run, *others)]

@@ -1,9 +1,9 @@
 """Slips: the definitions with one small change each, and whether a case of the runs finds it.
 
-A number becomes another, a sign, a test or a case its neighbour, a variable or a field one of the same type; arguments of one
-type change places, a part of a fact or a whole case is left out. A change that the language would refuse, since an
-argument has another type, a recursion has no end or a case is missing, is no slip and isn't counted; nor is one behind
-which nothing bounds what is looked for.
+A number becomes another, a sign, a test or a case its neighbour, a variable or a field one of the same type; arguments
+of one type change places, a part of a fact or a whole case is left out. A change that the language would refuse, since
+an argument has another type, a recursion has no end or a case is missing, is no slip and isn't counted; nor is one
+behind which nothing bounds what is looked for.
 """
 import gc
 import os
@@ -22,12 +22,16 @@ from .sources import TOP, Declaration
 from .translate import Left, key_of
 from .same import SAME
 
-TURNED = {"◌+◌": "◌-◌", "◌-◌": "◌+◌", "◌*◌": "◌+◌", "◌/◌": "◌%◌", "◌%◌": "◌/◌", "◌^◌": "◌*◌", "◌<◌": "◌≤◌", "◌≤◌": "◌<◌",
+TURNED = {"◌+◌": "◌-◌", "◌-◌": "◌+◌", "◌*◌": "◌+◌", "◌/◌": "◌%◌", "◌%◌": "◌/◌", "◌^◌": "◌*◌", "◌<◌": "◌≤◌",
+          "◌≤◌": "◌<◌",
           "◌≡◌": "◌≢◌", "◌≢◌": "◌≡◌", "◌&&◌": "◌||◌", "◌||◌": "◌&&◌", "true": "false", "false": "true", "◌+ℤ◌": "◌-ℤ◌",
-          "◌-ℤ◌": "◌+ℤ◌", "◌*ℤ◌": "◌+ℤ◌", "bit_and": "bit_or", "bit_or": "bit_xor", "bit_xor": "bit_and", "take": "drop",
-          "drop": "take", "list_any": "list_all", "list_all": "list_any", "ltb": "leb", "leb": "ltb", "min": "max", "max": "min"}
+          "◌-ℤ◌": "◌+ℤ◌", "◌*ℤ◌": "◌+ℤ◌", "bit_and": "bit_or", "bit_or": "bit_xor", "bit_xor": "bit_and",
+          "take": "drop",
+          "drop": "take", "list_any": "list_all", "list_all": "list_any", "ltb": "leb", "leb": "ltb", "min": "max",
+          "max": "min"}
 WIDTHS, ORDERED = ("w8", "w16", "w32", "w64"), ("◌-◌", "◌/◌", "◌%◌", "◌^◌", "◌<◌", "◌≤◌", "◌-ℤ◌", "ltb", "leb")
-REFUSED = ("TypeError", "AttributeError", "IndexError", "KeyError", "ValueError", "RecursionError", "Unmatched", "Unknown", "NameError")
+REFUSED = ("TypeError", "AttributeError", "IndexError", "KeyError", "ValueError", "RecursionError", "Unmatched",
+           "Unknown", "NameError")
 FIRST, MOST, LONGEST, PROCESSES = 5, 60, 120, 2
 
 
@@ -59,7 +63,8 @@ def own_changes(term, scope, fields):
         if int(term.code) > 1:
             yield f"{term.code} becomes {int(term.code) - 1}", Value(str(int(term.code) - 1))
     elif isinstance(term, Native) and term.key[1] in TURNED:
-        other = next(key for key in NATIVES if key[1] == TURNED[term.key[1]] and NATIVES[key].count == NATIVES[term.key].count)
+        other = next(key for key in NATIVES
+                     if key[1] == TURNED[term.key[1]] and NATIVES[key].count == NATIVES[term.key].count)
         yield f"{term.key[1]} becomes {other[1]}", Native(other)
     elif isinstance(term, Case):
         yield from neighbours(term)
@@ -110,11 +115,13 @@ def of_call(term):
     elif name == "◌⊎◌" and len(parts) == 2:
         yield "one of two is left out", parts[0]
         yield "one of two is left out", parts[1]
-    if isinstance(head, Use) and head.of.parts().kind == "function" or isinstance(head, Case) and isinstance(head.of, Declaration):
+    if (isinstance(head, Use) and head.of.parts().kind == "function"
+        or isinstance(head, Case) and isinstance(head.of, Declaration)):
         sorts = [text_of(one) for one in sorts_of(head)]
         for n, (one, other) in enumerate(zip(sorts, sorts[1:])):
             if one == other and n + 1 < len(parts) and parts[n] != parts[n + 1]:
-                yield f"arguments {n + 1} and {n + 2} change places", Call(head, parts[:n] + [parts[n + 1], parts[n]] + parts[n + 2:])
+                yield (f"arguments {n + 1} and {n + 2} change places",
+                       Call(head, parts[:n] + [parts[n + 1], parts[n]] + parts[n + 2:]))
 
 
 def sorts_of(head):
@@ -213,7 +220,8 @@ def chosen(made, ran, number):
     by_group = {}
     for group, case in ran.get(number, ()):
         by_group.setdefault(group, []).append(made[group][case])
-    first = [(group, case) for group, cases in by_group.items() for case in cases[::max(1, len(cases) // FIRST)][:FIRST]]
+    first = [(group, case) for group, cases in by_group.items()
+             for case in cases[::max(1, len(cases) // FIRST)][:FIRST]]
     more = [(group, case) for group, cases in by_group.items()
             for case in (cases if group.is_quick else cases[::max(1, len(cases) // MOST)])]
     return first + more
@@ -323,7 +331,8 @@ def told(slips, found):
     for number in missed:
         print(f"not found: {slips[number][3]}" + (f" ({explained(slips[number][3])})" if number not in unknown else ""))
     tries = len(found) - len(refused)
-    print(f"{tries:,} slips: {tries - len(missed):,} found, {len(missed)} not, {len(missed) - len(unknown)} of them explained; "
+    print(f"{tries:,} slips: {tries - len(missed):,} found, {len(missed)} not, {len(missed) - len(unknown)} of them "
+          f"explained; "
           f"{len(refused)} changes more that the language would refuse, or that no loop can try")
     return not unknown
 

@@ -1,10 +1,10 @@
 """Facts with binders, as loops of Python over what the facts themselves leave.
 
-`(x : T) → P → Q` holds where Q does for every x with P; `(x : T) × P` where some x has P. Which x may have P is read off P: a
-solution of an equation, numbers below a bound, the cases of an enum; else the members of a domain that data.py gives for
-DEFINITION.VARIABLE. To see more of P, definitions of one equation and records of facts are put in the place of their
-names; one of several equations, as a run, becomes a function of its other arguments that gives all x with P. What has
-no such bound is refused.
+`(x : T) → P → Q` holds where Q does for every x with P; `(x : T) × P` where some x has P. Which x may have P is read
+off P: a solution of an equation, numbers below a bound, the cases of an enum; else the members of a domain that data.py
+gives for DEFINITION.VARIABLE. To see more of P, definitions of one equation and records of facts are put in the place
+of their names; one of several equations, as a run, becomes a function of its other arguments that gives all x with P.
+What has no such bound is refused.
 """
 from . import data
 from .core import (Binder, Both, Call, Case, Implies, Make, Native, Quantified, Tuple, Use, Value, Var, free, fresh,
@@ -89,7 +89,8 @@ class Search:
 
     def enter_equation(self, of, arguments, depth):
         lines = self.translation.lines_of(of)
-        if len(lines) != 1 or not all(isinstance(pattern, Var) for pattern in lines[0].left) or not says_more(lines[0].body):
+        if (len(lines) != 1 or not all(isinstance(pattern, Var) for pattern in lines[0].left)
+            or not says_more(lines[0].body)):
             return False
         self.note(lines[0])
         known = dict(zip((pattern.name for pattern in lines[0].left), arguments))
@@ -173,7 +174,8 @@ class Search:
             return True
         if isinstance(term, Tuple):
             return all(self.is_shape(part, unknown) for part in term.parts)
-        if isinstance(term, Call) and (isinstance(term.head, Case) or native(term)[0] in ("suc", "◌∷◌", "pos", "negsuc")):
+        if (isinstance(term, Call)
+            and (isinstance(term.head, Case) or native(term)[0] in ("suc", "◌∷◌", "pos", "negsuc"))):
             return all(self.is_shape(part, unknown) for part in term.arguments)
         return False
 
@@ -277,5 +279,6 @@ class Search:
 def says_more(term):
     """Whether a body, put in the place of a name, may say which values a variable can have."""
     name, _ = native(term)
-    return (isinstance(term, Both) or isinstance(term, Quantified) and term.kind == "some" or name in (EQUATION, LESS, MOST)
+    return (isinstance(term, Both) or isinstance(term, Quantified) and term.kind == "some"
+            or name in (EQUATION, LESS, MOST)
             or isinstance(term, Call) and isinstance(term.head, Use))

@@ -14,7 +14,8 @@ from .reader import MARKS, Declared, Name, Reader, Unknown, Universe, chunks_of,
 
 TOP = pathlib.Path(__file__).resolve().parents[2]
 USE = re.compile(r"(pub )?(?:unfoldable )?(pub )?(?:ghost )?use (\S+?)(?:\.\{(.*)\}| as (\S+))?;?$")
-# `what` is "native", "declared", "case" or "type"; `of` is the declaration, for a case that of its type; `name` its name.
+# `what` is "native", "declared", "case" or "type"; `of` is the declaration, for a case that of its type; `name` its
+# name.
 Item = namedtuple("Item", "what of name")
 # A type of the code: its name, what it is, its cases with the number of their parts, or its fields with their types.
 CodeType = namedtuple("CodeType", "name kind cases fields path line")
@@ -270,7 +271,8 @@ class Declaration:
         return f"{self.module.name}.{self.name}"
 
     def place(self):
-        return f"{os.path.relpath(self.module.path, TOP) if self.module.path.is_relative_to(TOP) else self.module.path}:{self.line}"
+        path = self.module.path
+        return f"{os.path.relpath(path, TOP) if path.is_relative_to(TOP) else path}:{self.line}"
 
     def parts(self):
         """What is declared, as trees."""

@@ -1,15 +1,16 @@
 """Makes Python of definitions: each declaration becomes a function, by its equations or its fields.
 
-In Python a number is an int, a truth a bool, a list a tuple, a pair a tuple, a record a named tuple, any other case a tuple
-with its name in front. Functions that are passed take one argument after another. A fact is a truth; one with binders is a
-search, see solving.py. Nothing is translated that isn't reached.
+In Python a number is an int, a truth a bool, a list a tuple, a pair a tuple, a record a named tuple, any other case a
+tuple with its name in front. Functions that are passed take one argument after another. A fact is a truth; one with
+binders is a search, see solving.py. Nothing is translated that isn't reached.
 """
 import functools
 import keyword
 from collections import namedtuple
 
 from . import data
-from .core import (KINDS, Binder, Call, Case, Native, Put, Resolver, Tuple, Use, Value, Var, explicit, free, fresh, is_data,
+from .core import (KINDS, Binder, Call, Case, Native, Put, Resolver, Tuple, Use, Value, Var, explicit, free, fresh,
+                   is_data,
                    is_record, replaced, text_of)
 from .natives import HELPERS, NATIVES
 from .reader import Unknown
@@ -17,8 +18,9 @@ from .rows import Rows
 from .solving import Search
 from .sources import Missing, Sources
 
-# An equation or a field: its declaration, its number among all, its first and last line, what stands to its left, and what it
-# says. To the left of an equation stand its patterns; of a field its name, and its variable and sort where it is a thing.
+# An equation or a field: its declaration, its number among all, its first and last line, what stands to its left, and
+# what it says. To the left of an equation stand its patterns; of a field its name, and its variable and sort where it
+# is a thing.
 Line = namedtuple("Line", "of number first last left body")
 Left = namedtuple("Left", "name own sort")
 records = {}
@@ -320,7 +322,8 @@ class Translation:
     def listed(self, term):
         """A list that is written out, with what stands behind it."""
         items = []
-        while isinstance(term, Call) and isinstance(term.head, Native) and term.head.key[1] == "◌∷◌" and len(term.arguments) == 2:
+        while (isinstance(term, Call) and isinstance(term.head, Native) and term.head.key[1] == "◌∷◌"
+               and len(term.arguments) == 2):
             items.append(self.code(term.arguments[0]))
             term = term.arguments[1]
         is_end = isinstance(term, Native) and term.key[1] == "[]"

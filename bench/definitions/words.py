@@ -1,7 +1,7 @@
 """Words and values: the class of a word and what it is to a shadow, and what instructions give.
 
-Against words that GNU as made, results that qemu-alpha gave, and the models. A case is what `difference` says nothing of
-where the definitions have it so.
+Against words that GNU as made, results that qemu-alpha gave, and the models. A case is what `difference` says nothing
+of where the definitions have it so.
 """
 import re
 
@@ -33,7 +33,8 @@ def class_by_line(line):
             return class_by(name, 31, 0, registers[0], 1, 0)
         second = operands[-2].strip()
         literal = None if second.startswith("$") else int(second, 0)
-        return class_by(name, 31 if alone else registers[0], registers[-2] if literal is None else 0, registers[-1], literal, 0)
+        return class_by(name, 31 if alone else registers[0], registers[-2] if literal is None else 0, registers[-1],
+                        literal, 0)
     if name in drawn.OPCODES:
         found = re.match(rf"\$(\d+),({NUMBER})\(\$(\d+)\)$", rest)
         return found and class_by(name, int(found[1]), int(found[3]), 0, None, int(found[2], 0))
@@ -78,9 +79,11 @@ class Words:
         if way < 0.48:
             return known & ~(0x7F << 5) | chooser.getrandbits(7) << 5
         if way < 0.5:
-            return 0x1C << 26 | chooser.choice((31, 31, chooser.getrandbits(5))) << 21 | chooser.getrandbits(9) << 12 | chooser.choice((0, 1, 0x30, 0x32, 0x33)) << 5
+            return (0x1C << 26 | chooser.choice((31, 31, chooser.getrandbits(5))) << 21 | chooser.getrandbits(9) << 12
+                    | chooser.choice((0, 1, 0x30, 0x32, 0x33)) << 5)
         if way < 0.55:
-            return chooser.choice((0, 0x18 << 26 | 31 << 21 | 31 << 16)) | chooser.choice((chooser.getrandbits(16), 0x80 + chooser.getrandbits(6)))
+            return (chooser.choice((0, 0x18 << 26 | 31 << 21 | 31 << 16))
+                    | chooser.choice((chooser.getrandbits(16), 0x80 + chooser.getrandbits(6))))
         return known & 0xFC00FFFF | chooser.getrandbits(10) << 16 if way < 0.8 else known & ~31 | chooser.getrandbits(5)
 
     def difference(self, d, case):
@@ -100,7 +103,8 @@ class Words:
         if touched != NONE:
             of = touched[1]
             touched = of.base, d("alpha_table.Uses.first_byte")(of), of.disp + of.bytes
-        given = (d("alpha_table.Code.kind")(found)[1], used, 0 if one == NONE else 1 << one[1], None if touched == NONE else touched)
+        given = (d("alpha_table.Code.kind")(found)[1], used, 0 if one == NONE else 1 << one[1], None if touched == NONE
+                 else touched)
         return "" if given == (kind, uses, sets, span) else f"{found}: {given}, and {columns} is wanted"
 
     def level(self, d, number, found):
@@ -152,7 +156,8 @@ class Taken:
     name, about = "tests", "the tests of branches and moves, and addresses, of random operands"
     counts = {"sample": 1_500, "whole": 40_000}
     is_quick = True
-    TESTS = {"Lbc": lambda a, s: a & 1 == 0, "Lbs": lambda a, s: a & 1 == 1, "Eq": lambda a, s: a == 0, "Ne": lambda a, s: a != 0,
+    TESTS = {"Lbc": lambda a, s: a & 1 == 0, "Lbs": lambda a, s: a & 1 == 1, "Eq": lambda a, s: a == 0,
+             "Ne": lambda a, s: a != 0,
              "Lt": lambda a, s: s < 0, "Le": lambda a, s: s <= 0, "Ge": lambda a, s: s >= 0, "Gt": lambda a, s: s > 0}
 
     def cases(self, chooser, count, asked):
@@ -161,7 +166,8 @@ class Taken:
 
     def difference(self, d, case):
         base, displacement, test = case
-        given = d("alpha_values.Cond.is_taken")((test,), base), d("alpha_values.Address.address_of")(base, displacement), \
+        given = d("alpha_values.Cond.is_taken")((test,),
+                                                base), d("alpha_values.Address.address_of")(base, displacement), \
             d("alpha_values.Address.high_address_of")(base, displacement)
         signed = base - (base >> 63 << 64)
         wanted = self.TESTS[test](base, signed), base + displacement & MASK, base + 65536 * displacement & MASK

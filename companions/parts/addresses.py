@@ -1,4 +1,5 @@
-"""Addresses of code that the words and the data of a linked program hold: where a call or a jump by a register may lead."""
+"""Addresses of code that the words and the data of a linked program hold: where a call or a jump by a register may
+lead."""
 import struct
 from bisect import bisect_right
 from collections import Counter, namedtuple
@@ -55,11 +56,12 @@ class Linked:
                 yield steps.displacement_of(other)
 
     def pointers(self, begins):
-        """The values of the global pointer that its pairs of words make: from the address where a function begins, from that
-        behind a call, or from their own. That which most have is the first."""
+        """The values of the global pointer that its pairs of words make: from the address where a function begins, from
+        that behind a call, or from their own. That which most have is the first."""
         counts = Counter()
         for place, step in enumerate(self.steps):
-            if step.insn.name != "ldah" or step.insn.sets != table.bit(steps.GP) or steps.base_of(step) in (31, steps.GP):
+            if (step.insn.name != "ldah" or step.insn.sets != table.bit(steps.GP)
+                or steps.base_of(step) in (31, steps.GP)):
                 continue
             bases = {place} | {at for at in range(max(0, place - NEAR), place) if at in begins}
             for low in self.lows(place, step.insn.sets):
@@ -68,11 +70,12 @@ class Linked:
         return [pointer for pointer, _ in counts.most_common(1)]
 
     def tables(self, pointers, states):
-        """The places to which each jump by a table may go: by the table whose address the states before its words tell, else by
-        any whose address is made in its function."""
+        """The places to which each jump by a table may go: by the table whose address the states before its words tell,
+        else by any whose address is made in its function."""
         found = {}
         for place, step in enumerate(self.steps):
-            if step.insn.name != "jmp" or place not in states or not pointers or not is_by_table(self.steps, place, self.after):
+            if (step.insn.name != "jmp" or place not in states or not pointers
+                or not is_by_table(self.steps, place, self.after)):
                 continue
             offset = table_of(self.steps, place, self.after, states)
             offsets = [offset] if offset is not None else self.offsets_near(place, states)
@@ -82,7 +85,8 @@ class Linked:
         return found
 
     def offsets_near(self, place, states):
-        """How far from the global pointer what the function of a place makes by `lda` lies, where a table of two may stand."""
+        """How far from the global pointer what the function of a place makes by `lda` lies, where a table of two may
+        stand."""
         function = self.function_of(place)
         for other in range(function.start, function.end) if function else ():
             step = self.steps[other]
@@ -91,7 +95,8 @@ class Linked:
                 yield value[1]
 
     def targets(self, place, pointer, address):
-        """The places that a table holds as distances from the global pointer, up to what is none in the same function."""
+        """The places that a table holds as distances from the global pointer, up to what is none in the same
+        function."""
         found = set()
         for base, content in self.segments:
             while base <= address and address + 4 <= base + len(content):
@@ -113,8 +118,8 @@ class Linked:
 
 
 def is_by_table(found, place, after):
-    """Whether a jump goes by a table of distances from the global pointer: `ldl`, `addq` with it, `jmp`. Between may stand what
-    doesn't change these registers, and `addl $31` of what was loaded, which changes nothing."""
+    """Whether a jump goes by a table of distances from the global pointer: `ldl`, `addq` with it, `jmp`. Between may
+    stand what doesn't change these registers, and `addl $31` of what was loaded, which changes nothing."""
     return load_of_table(found, place, after) is not None
 
 
@@ -128,7 +133,8 @@ def load_of_table(found, place, after):
             return at
         if wanted == "ldl" and step.insn.name == "addl" and first == 31 and not is_literal:
             by = second
-        elif wanted == "addq" and step.insn.name == "addq" and not is_literal and first != second and steps.GP in (first, second):
+        elif (wanted == "addq" and step.insn.name == "addq" and not is_literal and first != second
+              and steps.GP in (first, second)):
             by, wanted = first if second == steps.GP else second, "ldl"
         else:
             return None
@@ -155,7 +161,8 @@ def table_of(found, place, after, states):
 
 
 def data_of(statements):
-    """The base of the code of a source, and its data, as pairs of base and bytes. What a label stands for counts as 0."""
+    """The base of the code of a source, and its data, as pairs of base and bytes. What a label stands for counts as
+    0."""
     base, start, segments, inside = image.CODE_BASE, 0x10000000, [], False
     for statement in statements:
         name, operands = statement.name, statement.operands

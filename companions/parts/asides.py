@@ -22,13 +22,15 @@ class Room:
     def __init__(self, statements, count):
         self.base, segments = addresses.data_of(statements)
         end, stack = self.base + 4 * count, image.STACK_BYTES
-        stack = next((gas.number_of(one.operands[0]) for one in statements if one.name == ".stack" and one.operands), stack)
+        stack = next((gas.number_of(one.operands[0]) for one in statements if one.name == ".stack" and one.operands),
+                     stack)
         ranges = [(start, start + size) for start, size in sizes_of(statements, segments)]
         # An image has no more words than these beside those that it has.
         self.more = image.MOST_WORDS - count
         limit = min([image.END - stack, *(start for start, _ in ranges if start >= end)])
         self.behind = min((limit - end) // 4, self.more)
-        self.floor = max([LOWEST, *(-(-last // image.PAGE) * image.PAGE for start, last in ranges if start < self.base)])
+        self.floor = max([LOWEST,
+                          *(-(-last // image.PAGE) * image.PAGE for start, last in ranges if start < self.base)])
         self.before = max(0, self.base - self.floor) // image.PAGE * PAGE_WORDS
 
     def split(self, sizes):
@@ -44,9 +46,12 @@ class Room:
 
     def refuse(self, path, sizes, missing):
         raise files.Refused(
-            f"{path}: the repair takes {sum(sizes) + 1} words, and there is room for {max(0, self.behind)} behind the code "
-            f"and for {self.before} before it, down to {self.floor:#x}, but no more than {self.more} in an image: {missing} "
-            "are missing. Link the program again at a higher address, or with more room between code and data; or repair "
+            f"{path}: the repair takes {sum(sizes) + 1} words, and there is room for {max(0, self.behind)} behind the "
+            f"code "
+            f"and for {self.before} before it, down to {self.floor:#x}, but no more than {self.more} in an image: "
+            f"{missing} "
+            "are missing. Link the program again at a higher address, or with more room between code and data; or "
+            "repair "
             "its text")
 
     def base_for(self, count):
@@ -106,8 +111,8 @@ def shared(made):
 
 
 def most_together(made, places):
-    """The change of an aside for as many of some places as can have one together, the register of its way back, and these
-    places; without both, all of them, where no two can."""
+    """The change of an aside for as many of some places as can have one together, the register of its way back, and
+    these places; without both, all of them, where no two can."""
     pairs = {place: dict.fromkeys(pairs_at(made, place)) for place in places} if len(places) > 1 else {}
     counts = Counter(pair for found in pairs.values() for pair in found)
     if not counts or max(counts.values()) < 2:
@@ -118,8 +123,9 @@ def most_together(made, places):
 
 
 def pairs_at(made, place):
-    """The pairs of registers by which a shared aside of a place can go: that of the result, None where it needs none but
-    its destination, and that of the way back, never that of divisions, so that it doesn't look like one of theirs."""
+    """The pairs of registers by which a shared aside of a place can go: that of the result, None where it needs none
+    but its destination, and that of the way back, never that of divisions, so that it doesn't look like one of
+    theirs."""
     free = made.free_at(place)
     for register in free if made.changes[place].register is not None else [None]:
         yield from ((register, link) for link in free if link not in (register, steps.BY_DIVISION))

@@ -15,11 +15,12 @@ def stub_of(entry, has_handler):
 
 
 def entry_of(whole):
-    """The entry of the image of which image2elf made this file, or None where it made none of it. Its first words must be just
-    those that image2elf writes."""
+    """The entry of the image of which image2elf made this file, or None where it made none of it. Its first words must
+    be just those that image2elf writes."""
     sections = {section.name: section for section in whole.sections}
     start = sections.get(".start")
-    if start is None or start.address != START or start.kind == linked.NOBITS or start.size < 4 * ENTRY or start.size % 4:
+    if (start is None or start.address != START or start.kind == linked.NOBITS or start.size < 4 * ENTRY
+        or start.size % 4):
         return None
     high, low = (signed(word) for word in struct.unpack("<2I", start.content[-4 * ENTRY:-4 * (ENTRY - 2)]))
     entry = (high << 16) + low
@@ -34,8 +35,8 @@ def signed(word):
 
 
 def parts_of(whole, stack):
-    """The sections of the image alone, its segments of data, and the bytes of its stack: those of the file's own part, or `stack`
-    where it is a part of the last segment's pages."""
+    """The sections of the image alone, its segments of data, and the bytes of its stack: those of the file's own part,
+    or `stack` where it is a part of the last segment's pages."""
     code = [section for section in whole.sections if section.flags & linked.EXEC and section.name != ".start"]
     segments = []
     for section in whole.sections:

@@ -1,4 +1,5 @@
-"""Every broken trigger of some code: by the program's verdicts on copies of its parts, and those of many functions by few calls."""
+"""Every broken trigger of some code: by the program's verdicts on copies of its parts, and those of many functions by
+few calls."""
 import bisect
 from collections import namedtuple
 from concurrent.futures import ThreadPoolExecutor
@@ -28,7 +29,8 @@ def every_broken(asked, whole, code, jobs):
 
 
 def parts(code):
-    """The first place of each part of the code that has triggers, and the place behind its last. No shadow goes past a part."""
+    """The first place of each part of the code that has triggers, and the place behind its last. No shadow goes past a
+    part."""
     start, has_trigger = 0, False
     for place, insn in enumerate(code.insns):
         has_trigger |= insn.kind == table.TRIGGER
@@ -53,21 +55,25 @@ def broken_in(asked, whole, scratch, code, start, end):
         found.append(Broken(trigger + 4 * start, place + 4 * start, condition))
         at = copy.place(trigger)
         if at is None or code.insns[start + at].kind != table.TRIGGER or words[at] != whole.words[start + at]:
-            raise files.Refused(f"the program names {trigger:x} as a trigger for the second time, or no /V word is there")
+            raise files.Refused(f"the program names {trigger:x} as a trigger for the second time, or no /V word is "
+                                f"there")
         words[at] = table.without_overflow(words[at])
 
 
 def first_of_each(asked, rows, jobs):
-    """The verdict of each of some rows of words alone, as `Program.verdict` has it of an image of them from the usual code base."""
+    """The verdict of each of some rows of words alone, as `Program.verdict` has it of an image of them from the usual
+    code base."""
     with program.Scratch() as scratch, ThreadPoolExecutor(max(1, jobs)) as pool:
-        told = pool.map(lambda one: judge_batch(asked, scratch, one[0], [rows[n] for n in one[1]]), enumerate(batches(rows)))
+        told = pool.map(lambda one: judge_batch(asked, scratch, one[0], [rows[n] for n in one[1]]),
+                        enumerate(batches(rows)))
         numbers = [number for batch in batches(rows) for number in batch]
         found = dict(zip(numbers, (verdict for batch in told for verdict in batch)))
     return [found[n] for n in range(len(rows))]
 
 
 def batches(rows):
-    """The numbers of rows that are judged together, in lists. One whose last shadow is open is alone: behind it the code must end."""
+    """The numbers of rows that are judged together, in lists. One whose last shadow is open is alone: behind it the
+    code must end."""
     batch, count = [], 0
     for number, words in enumerate(rows):
         if ends_open(words):
@@ -92,7 +98,8 @@ def ends_open(words):
 
 
 def judge_batch(asked, scratch, name, rows):
-    """The verdict of each row. That of all together is of the first row that is broken, and the next copy begins behind it."""
+    """The verdict of each row. That of all together is of the first row that is broken, and the next copy begins behind
+    it."""
     verdicts, start = [None] * len(rows), 0
     while start < len(rows):
         words, begins = [], []

@@ -4,11 +4,14 @@ from bisect import bisect_right
 
 from . import addresses, files, flow, places, steps, table
 
-SECTIONS = {".text": ".text", ".code": ".text", ".data": ".data", ".bss": ".bss", ".rdata": ".rodata", ".rodata": ".rodata",
+SECTIONS = {".text": ".text", ".code": ".text", ".data": ".data", ".bss": ".bss", ".rdata": ".rodata",
+            ".rodata": ".rodata",
             ".sdata": ".sdata", ".sbss": ".sbss", ".segment": ".data"}
 # Directives that put nothing into a section.
-SILENT = (".cfi_", ".loc", ".file", ".globl", ".global", ".weak", ".local", ".hidden", ".type", ".size", ".ent", ".end", ".frame", ".mask",
-          ".fmask", ".prologue", ".eflag", ".set", ".align", ".p2align", ".balign", ".ident", ".arch", ".comm", ".lcomm", ".section",
+SILENT = (".cfi_", ".loc", ".file", ".globl", ".global", ".weak", ".local", ".hidden", ".type", ".size", ".ent", ".end",
+          ".frame", ".mask",
+          ".fmask", ".prologue", ".eflag", ".set", ".align", ".p2align", ".balign", ".ident", ".arch", ".comm",
+          ".lcomm", ".section",
           ".usepv", ".gprel", ".codebase", ".database", ".entry", ".stack", ".level", *SECTIONS)
 POINTERS = (".quad", ".gprel32", ".long", ".word", ".int", ".8byte", ".4byte")
 MOST_ROUNDS = 16
@@ -16,8 +19,8 @@ NAMES = re.compile(r"[A-Za-z_.$][\w.$]*")
 
 
 class Text:
-    """The instructions of a text: `code`, `statements` with the index of the statement of each place, and `labels` with the
-    places of labels. A map's symbols are (place, size in words, name, is it a function)."""
+    """The instructions of a text: `code`, `statements` with the index of the statement of each place, and `labels` with
+    the places of labels. A map's symbols are (place, size in words, name, is it a function)."""
 
     def __init__(self, statements, symbols=()):
         self.given, self.symbols = statements, symbols
@@ -95,7 +98,8 @@ class Text:
     def numbers(self):
         """The places of which an address stands in the code or the data as a number."""
         linked = addresses.Linked(self.code.steps, self.after, self.base, self.segments, [])
-        return linked.taken(linked.pointers(self.code.roots)) | {place for places in self.code.tables.values() for place in places}
+        return (linked.taken(linked.pointers(self.code.roots))
+                | {place for places in self.code.tables.values() for place in places})
 
     def switched(self, statement, section, before):
         if statement.name in SECTIONS:
@@ -158,16 +162,19 @@ class Text:
         called = {targets[place] for place, step in enumerate(found) if steps.is_call(step)}
         outside = {here[name] for name in self.globals if name in here} | taken & starts | starts - called
         if not functions:
-            every = set(here.values()) | {place for places in self.numbered.values() for place in places} | ({0} if found else set())
+            every = (set(here.values()) | {place for places in self.numbered.values() for place in places}
+                     | ({0} if found else set()))
             outside |= every - called
         linked = addresses.Linked(found, self.after, 0, [], functions)
-        tables = {place: [other for other in sorted(taken - starts) if linked.are_of_one(place, other)] for place, step in enumerate(found)
+        tables = {place: [other for other in sorted(taken - starts) if linked.are_of_one(place, other)]
+                  for place, step in enumerate(found)
                   if step.insn.name == "jmp" and addresses.is_by_table(found, place, self.after)}
         return flow.Code(found, targets, starts | taken | outside, starts, outside, tables, self.after)
 
     def whole(self, found, targets):
         """The code of a source for `asm`, a listing among them."""
-        here, functions = self.labels, [addresses.Function(place, place + size, name) for place, size, name, is_function in self.symbols
+        here, functions = self.labels, [addresses.Function(place, place + size, name)
+                                        for place, size, name, is_function in self.symbols
                                         if is_function and size]
         entries = {here[name] for name in self.names if name in here}
         entries |= {(int(name, 0) - self.base) // 4 for name in self.names if name.isalnum() and name[0].isdigit()}
@@ -180,11 +187,13 @@ def program(linked, targets, entries, taken, symbols):
     """The code of a whole program."""
     found, count = linked.steps, len(linked.steps)
     starts = {place for place in entries if 0 <= place < count}
-    starts |= {place for place, _, name, is_function in symbols if is_function and ".cold" not in name and place < count}
+    starts |= {place for place, _, name, is_function in symbols
+               if is_function and ".cold" not in name and place < count}
     roots = starts | taken | {place for place, *_ in symbols if place < count}
     begins = roots | {place + 1 for place, step in enumerate(found) if steps.is_call(step)}
     pointers = linked.pointers(begins | {target for target in targets if target is not None})
-    if any(steps.is_call(step) and targets[place] is None or step.insn.name == "jmp" for place, step in enumerate(found)):
+    if any(steps.is_call(step) and targets[place] is None or step.insn.name == "jmp"
+           for place, step in enumerate(found)):
         roots = roots | linked.taken(pointers)
     first = code = flow.Code(found, targets, roots, starts, (), {}, linked.after)
     # A jump may be reached only by another one's table, so they are looked for until no more are found.
@@ -202,9 +211,11 @@ def of_image(given, symbols=()):
     known = {word: steps.of_word(word) for word in set(given.words)}
     found = [known[word] for word in given.words]
     targets = [target_of(place, step, count) for place, step in enumerate(found)]
-    functions = [addresses.Function(place, place + size, name) for place, size, name, is_function in symbols if is_function and size]
+    functions = [addresses.Function(place, place + size, name) for place, size, name, is_function in symbols
+                 if is_function and size]
     after = [place + 1 for place in range(count - 1)] + [None]
-    linked = addresses.Linked(found, after, given.code_base, [(one.base, one.data) for one in given.segments], functions)
+    linked = addresses.Linked(found, after, given.code_base, [(one.base, one.data) for one in given.segments],
+                              functions)
     return program(linked, targets, {given.place(given.entry)} - {None}, set(), symbols)
 
 

@@ -40,7 +40,8 @@ def told(remarks, more, whole):
     conditions = defaultdict(list)
     for trigger, condition in remarks:
         conditions[trigger].append(f"C{condition}")
-    said = [f"{' '.join(names)} of {whole.address(trigger):x}" for trigger, names in list(conditions.items())[:MOST_TOLD]]
+    said = [f"{' '.join(names)} of {whole.address(trigger):x}"
+            for trigger, names in list(conditions.items())[:MOST_TOLD]]
     if len(conditions) > MOST_TOLD:
         said.append(f"and of {len(conditions) - MOST_TOLD} more")
     return ", ".join(said) + (f"  +{more} not drawn" if more else "")

@@ -11,10 +11,12 @@ EXECUTABLE, SHARING, CALLS_SHARED, IS_SHARED = 0x2, 0x3000, 0x3000, 0x2000
 PAGED, UNPAGED = 0x10B, (0x107, 0x108)
 # Bits of a section: of instructions, of zeroed bytes, and of remarks that are not in memory.
 CODE, ZEROED, REMARKS = 0x20 | 0x80000000 | 0x01000000, 0x80 | 0x400, 0x2100000
-# Kinds of symbols: those of procedures, static ones too, and with them those of names and labels, known everywhere or not.
+# Kinds of symbols: those of procedures, static ones too, and with them those of names and labels, known everywhere or
+# not.
 PROCEDURES = {6, 14}
 NAMED = PROCEDURES | {1, 2, 5}
-# The classes of symbols whose value is the address of a text, of data, of zeroed bytes or of tables; of a number, it may be.
+# The classes of symbols whose value is the address of a text, of data, of zeroed bytes or of tables; of a number, it
+# may be.
 PLACED, NUMBER = {1, 2, 3, 13, 14, 15, 22, 24, 25, 26, 27}, 5
 # The bytes of the headers, of a section and of a symbol of a file; and what is read of each record.
 HEADER, OPTIONAL, SECTION, BYTES = 24, 80, 64, 16
@@ -56,31 +58,37 @@ class Ecoff(Linked):
         content = b"" if is_zeroed else self.content(offset, length)
         self.offsets[address] = offset
         told = shown.name(name.rstrip(b"\0").decode("utf-8", "surrogateescape"))
-        self.sections.append(Section(told, NOBITS if is_zeroed else PROGBITS, EXEC if flags & CODE else 0, address, content, length))
+        self.sections.append(Section(told, NOBITS if is_zeroed else PROGBITS, EXEC if flags & CODE else 0, address,
+                                     content, length))
 
     def hold_loaded(self, headers):
-        """Refuses a file of two faces: one whose sections aren't what a system loads, which goes by the sizes and the addresses of text
-        and data that stand before the sections. `headers` is where these end."""
+        """Refuses a file of two faces: one whose sections aren't what a system loads, which goes by the sizes and the
+        addresses of text and data that stand before the sections. `headers` is where these end."""
         magic, text_size, data_size = self.fields("<H6xQQ", HEADER)
         text, data = self.fields("<QQ", HEADER + 40)
         if magic != PAGED and magic not in UNPAGED:
             self.refuse("neither OMAGIC, NMAGIC nor ZMAGIC, so nothing says what a system loads of it")
         at = self.text_offset(magic, headers, text)
-        parts = sorted((address, offset, flags, min(size, max(0, self.file.size - offset)), size) for address, offset, flags, size in (
+        parts = sorted((address, offset, flags, min(size, max(0, self.file.size - offset)), size)
+                       for address, offset, flags, size in (
             (text, at, loaded.EXECUTE, text_size), (data, at + text_size, 0, data_size)) if size)
         if len(parts) == 2 and parts[0][0] + parts[0][4] > parts[1][0]:
             self.refuse("its text and its data share addresses")
-        loads = loaded.Loads(self, [loaded.Load(flags, offset, address, held, size) for address, offset, flags, held, size in parts])
+        loads = loaded.Loads(self,
+                             [loaded.Load(flags, offset, address, held, size)
+                              for address, offset, flags, held, size in parts])
         loads.hold([section for section in self.sections if section.kind != NOBITS])
         for section in self.sections:
             for load in loads.loads if section.kind == NOBITS else ():
-                start, end = max(section.address, load.address), min(section.address + section.size, load.address + load.held)
+                start, end = (max(section.address, load.address),
+                              min(section.address + section.size, load.address + load.held))
                 if start < end and any(loads.content(start, end - start)):
-                    self.refuse(f"section {section.name} at {section.address:#x} has no bytes, and others are loaded there")
+                    self.refuse(f"section {section.name} at {section.address:#x} has no bytes, and others are loaded "
+                                f"there")
 
     def text_offset(self, magic, headers, text):
-        """Where the text that is loaded begins in the file: behind the headers, or where its pages are in place with them. GNU's
-        linkers leave the headers out there, and begin with the next page of the file."""
+        """Where the text that is loaded begins in the file: behind the headers, or where its pages are in place with
+        them. GNU's linkers leave the headers out there, and begin with the next page of the file."""
         if magic != PAGED:
             return -(-headers // 16) * 16
         behind = -(-headers // loaded.PAGE) * loaded.PAGE
@@ -93,7 +101,8 @@ class Ecoff(Linked):
         if header[0] != SYMBOLIC:
             self.refuse("damaged: no table of symbols stands where its header says")
         count_of_files, count_of_externals = header[10], header[12]
-        locals_at, texts, external_texts, files_at, externals_at = header[17], header[20], header[21], header[22], header[24]
+        locals_at, texts, external_texts, files_at, externals_at = (header[17], header[20], header[21], header[22],
+                                                                    header[24])
         found = set()
         section_at = finder(self.sections)
         for base, first, count in self.records(FILE, files_at, count_of_files):

@@ -2,7 +2,8 @@
 import struct
 
 from . import files, loaded
-from .linked import EXEC, NOBITS, PROGBITS, TLS, Linked, Section, Symbol  # noqa: F401  (some are named by who reads a file)
+# Some are named by who reads a file.
+from .linked import EXEC, NOBITS, PROGBITS, TLS, Linked, Section, Symbol  # noqa: F401
 
 MAGIC, ALPHA = b"\x7fELF", 0x9026
 SYMTAB, RELOCATIONS, DYNSYM = 2, 4, 11
@@ -10,7 +11,8 @@ OBJECT, EXECUTABLE, SHARED = 1, 2, 3
 ALLOC = 2
 HEADER = "<IIQQQQIIQQ"
 KINDS = {0: "label", 1: "object", 2: "func"}
-# The kinds of relocations that change no word, or of a branch or of `ldah` and `lda` alone, whose distance no condition asks for.
+# The kinds of relocations that change no word, or of a branch or of `ldah` and `lda` alone, whose distance no condition
+# asks for.
 HARMLESS = {0, 5, 6, 7, 8, 28}
 
 
@@ -23,7 +25,8 @@ class Elf(Linked):
         try:
             self.read()
         except (struct.error, IndexError, ValueError, OverflowError) as error:
-            raise files.Refused(f"{path}: damaged: it ends within a table, or names a section that isn't there") from error
+            raise files.Refused(f"{path}: damaged: it ends within a table, or names a section that isn't "
+                                f"there") from error
 
     def read(self):
         if self.file.size < 64 or self.file.part(0, 4) != MAGIC:
@@ -61,20 +64,23 @@ class Elf(Linked):
         for n, (name, kind, flags, address, offset, length, *_) in enumerate(headers):
             if n in bases if is_object else flags & ALLOC and length and not (kind == NOBITS and flags & TLS):
                 content = b"" if kind == NOBITS else self.content(offset, length)
-                self.sections.append(Section(self.text(text + name), kind, flags, bases.get(n, address), content, length,
+                self.sections.append(Section(self.text(text + name), kind, flags, bases.get(n, address), content,
+                                             length,
                                              frozenset(loose.get(n, ()))))
         self.read_symbols(headers, bases if is_object else None)
         self.order()
 
     def loose(self, headers):
-        """By its number, the offsets of a section's words of which a relocation makes more than a branch, or the half of an address."""
+        """By its number, the offsets of a section's words of which a relocation makes more than a branch, or the half
+        of an address."""
         found, total = {}, 0
         for _, kind, _, _, offset, length, _, of, *_ in headers:
             if kind == RELOCATIONS:
                 total += length
                 if total > self.file.size:
                     raise ValueError("more relocations than the file has bytes for")
-                found.setdefault(of, set()).update(place & ~3 for place, info, _ in self.rows("<QQq", offset, length // 24)
+                found.setdefault(of, set()).update(place & ~3
+                                                   for place, info, _ in self.rows("<QQq", offset, length // 24)
                                                    if info & 0xFFFFFFFF not in HARMLESS)
         return found
 
@@ -100,7 +106,8 @@ class Elf(Linked):
 
 
 def laid_out(headers):
-    """Addresses for an object's sections of instructions, one behind another, by their numbers: of the first one it is 0."""
+    """Addresses for an object's sections of instructions, one behind another, by their numbers: of the first one it is
+    0."""
     bases, end = {}, 0
     for n, (_, kind, flags, _, _, length, *_) in enumerate(headers):
         if flags & ALLOC and flags & EXEC and length and kind == PROGBITS:

@@ -10,11 +10,13 @@ from . import shown
 TOP = os.path.dirname(os.path.dirname(os.path.dirname(os.path.abspath(__file__))))
 
 # What files are, by their first bytes, that are often given where a text is wanted.
-NO_TEXT = {b"\x7fELF": "no text: an ELF file, which companions/elf2image reads where it is linked", b"ALPHAIM": "no text: an image",
+NO_TEXT = {b"\x7fELF": "no text: an ELF file, which companions/elf2image reads where it is linked",
+           b"ALPHAIM": "no text: an image",
            b"ALPHAOB": "no text: a module", b"ALPHAJR": "no text: a journal"}
-# The most bytes that the program takes of each kind of file (docs/commands.md); of a compiler's text, and of a table or a section of a
-# linked file, as many are read.
-MOST_IMAGE, MOST_SOURCE, MOST_MODULE, MOST_JOURNAL, MOST_TEXT = 18_874_368, 16_777_216, 20_971_520, 33_554_432, 33_554_432
+# The most bytes that the program takes of each kind of file (docs/commands.md); of a compiler's text, and of a table or
+# a section of a linked file, as many are read.
+MOST_IMAGE, MOST_SOURCE, MOST_MODULE = 18_874_368, 16_777_216, 20_971_520
+MOST_JOURNAL, MOST_TEXT = 33_554_432, 33_554_432
 MOST_PART = 134_217_728
 
 class Refused(Exception):
@@ -32,7 +34,8 @@ def open_file(path):
 
 
 def read_bytes(path, most=MOST_TEXT):
-    """All bytes of a file. One of more than `most` is refused, and no more than that is read of it: it may have holes, or no end."""
+    """All bytes of a file. One of more than `most` is refused, and no more than that is read of it: it may have holes,
+    or no end."""
     with open_file(path) as file:
         try:
             size = os.fstat(file.fileno()).st_size
@@ -45,7 +48,8 @@ def read_bytes(path, most=MOST_TEXT):
 
 
 class Parts:
-    """A regular file, or a window of one, of which parts are read. Each part is held against the size before memory is taken."""
+    """A regular file, or a window of one, of which parts are read. Each part is held against the size before memory is
+    taken."""
 
     def __init__(self, path, file=None, start=0, size=None):
         self.path, self.file, self.start = path, file or open_file(path), start
@@ -71,10 +75,12 @@ class Parts:
 
 
 def read_text(path, most=MOST_TEXT):
-    """The text of a file. Bytes that are no UTF-8 stay as they are when it is written again; one with a byte of 0 is no text."""
+    """The text of a file. Bytes that are no UTF-8 stay as they are when it is written again; one with a byte of 0 is no
+    text."""
     content = read_bytes(path, most)
     if b"\0" in content:
-        raise Refused(f"{path}: {next((kind for front, kind in NO_TEXT.items() if content.startswith(front)), 'no text')}")
+        kinds = (kind for front, kind in NO_TEXT.items() if content.startswith(front))
+        raise Refused(f"{path}: {next(kinds, 'no text')}")
     return content.decode("utf-8", "surrogateescape")
 
 
@@ -124,7 +130,8 @@ def arguments(name, text, epilog=None):
 
 def with_program(parser):
     parser.add_argument("--alpha", metavar="PROGRAM", default=os.environ.get("ALPHA") or None,
-                        help="the program to ask; else the variable ALPHA says which, else it is the one beside the companions")
+                        help="the program to ask; else the variable ALPHA says which, else it is the one beside the "
+                             "companions")
     return parser
 
 

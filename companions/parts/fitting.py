@@ -3,24 +3,28 @@ from collections import namedtuple
 
 from . import files, image, module, program
 
-# What is made of a source. `words` has pairs of a word and those of its bits that a link leaves as they are, `data` pairs of
-# a byte and whether a link leaves it; of an image with a level, `zeroed` has the sizes of its segments instead.
+# What is made of a source. `words` has pairs of a word and those of its bits that a link leaves as they are, `data`
+# pairs of a byte and whether a link leaves it; of an image with a level, `zeroed` has the sizes of its segments
+# instead.
 Made = namedtuple("Made", "words data zeroed")
 OF_LINK = {module.BRANCH: 0xFFE00000, module.HIGH: 0xFFFF0000, module.LOW: 0xFFFF0000}
 
 
 def hold(asked, path, sources):
-    """Refuses sources of which the image of the path wasn't made. They are laid out, several as the modules of a link."""
+    """Refuses sources of which the image of the path wasn't made. They are laid out, several as the modules of a
+    link."""
     given = image.read_image(path)
     is_one = len(sources) == 1
     made = [assembled(asked, one) if is_one and one.has_entry else of_module(asked, one) for one in sources]
-    advice = "is it the source of that image?" if is_one else "are these the sources of its modules, in the order of the link?"
+    advice = ("is it the source of that image?" if is_one
+              else "are these the sources of its modules, in the order of the link?")
     count = sum(len(one.words) for one in made)
     if count != len(given.words):
         raise files.Refused(f"{path} has {len(given.words)} code words, and {told(sources)} {count}: {advice}" +
                             (" An image that was linked needs --source for each module" if is_one else ""))
     if given.code_base != sources[0].code_base:
-        raise files.Refused(f"{path}: the code begins at {given.code_base:#x}, by {told(sources)} at {sources[0].code_base:#x}: {advice}")
+        raise files.Refused(f"{path}: the code begins at {given.code_base:#x}, by {told(sources)} at "
+                            f"{sources[0].code_base:#x}: {advice}")
     for source, one in zip(sources, made):
         hold_words(path, given, source, one, advice)
     bases = [source.begin for source in sources]
@@ -40,7 +44,8 @@ def hold_words(path, given, source, made, advice):
         there = given.words[first + place]
         if (there ^ word) & kept:
             address = given.address(first + place)
-            raise files.Refused(f"{source.path}:{source.lines[address]}: this line makes {word:08x} at {address:016x}, where "
+            raise files.Refused(f"{source.path}:{source.lines[address]}: this line makes {word:08x} at {address:016x}, "
+                                f"where "
                                 f"{path} has {there:08x}: {advice}")
 
 
@@ -49,12 +54,14 @@ def hold_data(path, given, bases, made, why):
     if given.level:
         there = [(segment.base, len(segment.data), segment.zeroed) for segment in given.segments]
         if made[0].zeroed != there:
-            raise files.Refused(f"{path} has the segments {there} (base, bytes, zeroed bytes), and {made[0].zeroed} are made of {why}")
+            raise files.Refused(f"{path} has the segments {there} (base, bytes, zeroed bytes), and {made[0].zeroed} "
+                                f"are made of {why}")
         return
     segment, = given.segments
     ends = [(base + len(one.data), one.zeroed) for base, one in zip(bases, made)]
     if segment.base != bases[0] or (segment.base + len(segment.data), segment.zeroed) != ends[-1]:
-        raise files.Refused(f"{path} has {len(segment.data)} data bytes from {segment.base:#x} on, and others are made of {why}")
+        raise files.Refused(f"{path} has {len(segment.data)} data bytes from {segment.base:#x} on, and others are made "
+                            f"of {why}")
     for base, one in zip(bases, made):
         at = base - segment.base
         for offset, (byte, kept) in enumerate(one.data):
@@ -94,5 +101,6 @@ def of_module(asked, source):
 def refuse(source, command, answer):
     status, _, notes = answer
     if status != 0:
-        raise files.Refused(f"{source.path}: `{command}` answers status {status}: {notes.strip() or 'no line'}: is it the source of "
+        raise files.Refused(f"{source.path}: `{command}` answers status {status}: {notes.strip() or 'no line'}: is it "
+                            f"the source of "
                             "an image" + ("" if command == "asm" else " that was linked of modules") + "?")

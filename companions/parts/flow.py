@@ -1,8 +1,8 @@
 """Where the code of a text or of an image goes: what is reached, where calls come back, and which returns are shown to.
 
-A return is shown to go back behind a call where the register that it goes by has, on every way from the function's entry,
-what a register had there: it was never set, or was kept in the stack and loaded from there. A store of which the flow
-doesn't show that it goes there counts as one elsewhere.
+A return is shown to go back behind a call where the register that it goes by has, on every way from the function's
+entry, what a register had there: it was never set, or was kept in the stack and loaded from there. A store of which the
+flow doesn't show that it goes there counts as one elsewhere.
 """
 import functools
 
@@ -40,7 +40,8 @@ class Code:
         return self.known
 
     def onward(self, place):
-        """The places where the flow goes on within a function; a call comes back behind it. None stands for elsewhere."""
+        """The places where the flow goes on within a function; a call comes back behind it. None stands for
+        elsewhere."""
         step = self.steps[place]
         name, behind = step.insn.name, self.after[place]
         if name == "br":
@@ -54,7 +55,8 @@ class Code:
         return [behind]
 
     def is_exit(self, place):
-        """Whether a system call is the one that ends a program: its number is loaded before it, with no label between."""
+        """Whether a system call is the one that ends a program: its number is loaded before it, with no label
+        between."""
         while place > 0 and place not in self.joined:
             place -= 1
             step = self.steps[place]
@@ -94,9 +96,9 @@ class Code:
 
 
 class Left:
-    """What a function leaves at its returns: a set of registers that are as they were, where the stack pointer stands, the
-    registers by which it returns, None among them where nothing shows that, and what it keeps in a part of the stack that it
-    has taken, as a part of a function does that saves registers for the rest."""
+    """What a function leaves at its returns: a set of registers that are as they were, where the stack pointer stands,
+    the registers by which it returns, None among them where nothing shows that, and what it keeps in a part of the
+    stack that it has taken, as a part of a function does that saves registers for the rest."""
 
     def __init__(self, kept, stack, links, saved=None):
         self.kept, self.stack, self.links, self.saved = kept, stack, links, saved or {}
@@ -139,16 +141,17 @@ def spread(starts, ends, ways):
 
 # What a call leaves by the calling standard, where the function isn't here: one that returns by $26, or a division.
 STANDARD = {steps.RA: Left(KEPT, ("stack", 0), {steps.RA}),
-            steps.BY_DIVISION: Left(steps.ALL & ~steps.bits(steps.BY_DIVISION, 24, 25, steps.PV, steps.AT), ("stack", 0), {steps.BY_DIVISION})}
+            steps.BY_DIVISION: Left(steps.ALL & ~steps.bits(steps.BY_DIVISION, 24, 25, steps.PV, steps.AT),
+                                    ("stack", 0), {steps.BY_DIVISION})}
 
 
 class Returns:
     """What the flow shows of each function, found anew for its callers until nothing changes.
 
-    `links` has for each place of a return the pairs of entry and register, None where nothing shows that it is a return.
-    `left` has what each entry's function leaves, None where it never returns. `states` has for each place what its registers
-    are known to have, over all functions that it is in. `is_stack` says that the stack pointer is one, wherever a call leads,
-    and `below` has places that use memory below it.
+    `links` has for each place of a return the pairs of entry and register, None where nothing shows that it is a
+    return. `left` has what each entry's function leaves, None where it never returns. `states` has for each place what
+    its registers are known to have, over all functions that it is in. `is_stack` says that the stack pointer is one,
+    wherever a call leads, and `below` has places that use memory below it.
     """
 
     def __init__(self, code):
@@ -209,7 +212,8 @@ class Returns:
             link = self.link_at(step, state)
             return Left(0, stack, {None}) if link is None else Left(kept_in(state), stack, {link}, saved_in(state))
         if name == "jmp" and place not in self.code.tables:
-            # With the return address and the stack as they were it goes on in another function, which returns from this one.
+            # With the return address and the stack as they were it goes on in another function, which returns from this
+            # one.
             is_tail = state.get(steps.RA) == ("entry", steps.RA) and stack == ("stack", 0)
             return Left(kept_in(state) & KEPT, stack, {steps.RA}) if is_tail else Left(0, None, {None})
         return None
@@ -261,9 +265,11 @@ class Returns:
             return after
         after[steps.SP] = STACK if None in (before[1], left.stack[1]) else ("stack", before[1] + left.stack[1])
         # What stands below the stack pointer isn't the caller's. Where its depth isn't known, it lies below what is.
-        after.update((slot, value) for slot, value in state.items() if isinstance(slot, tuple) and (before[1] is None or slot[1] >= before[1]))
+        after.update((slot, value) for slot, value in state.items()
+                     if isinstance(slot, tuple) and (before[1] is None or slot[1] >= before[1]))
         if before[1] is not None:
-            after.update((("slot", before[1] + slot[1]), state[value[1]]) for slot, value in left.saved.items() if value[1] in state)
+            after.update((("slot", before[1] + slot[1]), state[value[1]]) for slot, value in left.saved.items()
+                         if value[1] in state)
         return after
 
     def left_by(self, place, step):
@@ -279,7 +285,8 @@ class Returns:
         return found
 
     def callable_by(self, link):
-        """The functions that a call may lead to of which the flow doesn't show where: those that return by its register."""
+        """The functions that a call may lead to of which the flow doesn't show where: those that return by its
+        register."""
         return [entry for entry, left in self.left.items() if left is None or link in left.links or None in left.links]
 
 
@@ -309,7 +316,8 @@ def kept_in(state):
 def saved_in(state):
     """What stands in the part of the stack that a function leaves taken."""
     depth = state.get(steps.SP, ("", 0))[1] or 0
-    return {slot: value for slot, value in state.items() if isinstance(slot, tuple) and depth <= slot[1] < 0 and value[0] == "entry"}
+    return {slot: value for slot, value in state.items()
+            if isinstance(slot, tuple) and depth <= slot[1] < 0 and value[0] == "entry"}
 
 
 def value_of(step, state):
@@ -323,7 +331,8 @@ def value_of(step, state):
         return moved(base, steps.displacement_of(step) << (16 if name == "ldah" else 0))
     if name == "ldq":
         base = state.get(rb, ("", None))
-        return state.get(("slot", base[1] + steps.displacement_of(step))) if base[0] == "stack" and base[1] is not None else None
+        return (state.get(("slot", base[1] + steps.displacement_of(step))) if base[0] == "stack" and base[1] is not None
+                else None)
     is_literal, literal = step.word & steps.LITERAL, step.word >> 13 & 0xFF
     if name == "bis" and not is_literal and (ra == 31 or rb in (31, ra)):
         return state.get(rb if ra == 31 else ra)
@@ -372,4 +381,5 @@ def is_below(state, step):
     base, stack = state.get(steps.base_of(step), ("", None)), state.get(steps.SP, ("", None))
     if steps.base_of(step) == steps.SP and not step.insn.name.endswith("_u"):
         return step.insn.span[1] < 0
-    return base[0] == stack[0] == "stack" and None not in (base[1], stack[1]) and span_in_stack(base[1], step)[0] < stack[1]
+    return (base[0] == stack[0] == "stack" and None not in (base[1], stack[1])
+            and span_in_stack(base[1], step)[0] < stack[1])

@@ -15,8 +15,8 @@ BARRIER = 0x63FF0000
 MOST_SHARED = 4
 # A symbol with the bytes that are its own: up to what its size says, or up to the next one.
 Function = namedtuple("Function", "symbol size section")
-# The words of a function, with barriers for those of `foreign`: places whose words can't be judged, each with the word, why, and
-# the place of the trigger in whose shadow it stands, or None. `is_idle` where no word has /V.
+# The words of a function, with barriers for those of `foreign`: places whose words can't be judged, each with the word,
+# why, and the place of the trigger in whose shadow it stands, or None. `is_idle` where no word has /V.
 Row = namedtuple("Row", "words foreign is_idle")
 Foreign = namedtuple("Foreign", "place word why trigger")
 
@@ -52,14 +52,15 @@ def functions_of(whole):
 
 def look_at_sizes(whole, code, found):
     """Refuses symbols that have all code many times over, as a damaged file's may."""
-    distinct = {(one.symbol.address, one.size) for one in found if one.section is not None and one.size <= one.section.size}
+    distinct = {(one.symbol.address, one.size) for one in found
+                if one.section is not None and one.size <= one.section.size}
     if sum(size for _, size in distinct) > MOST_SHARED * sum(section.size for section in code):
         whole.refuse(f"its symbols have each word of the code more than {MOST_SHARED} times")
 
 
 def rest_of(section, inner):
-    """The rows of a section that are in no symbol, each up to a return. Fillers between them are left out. `inner` has the offset and
-    the size of each symbol there, in order."""
+    """The rows of a section that are in no symbol, each up to a return. Fillers between them are left out. `inner` has
+    the offset and the size of each symbol there, in order."""
     if section.kind == linked.NOBITS or section.size % 4 or section.address % 4:
         return [Function(linked.Symbol(section.address, section.size, "label", section.name), section.size, section)]
     rows, start, known, at, last = [], None, 0, 0, section.size // 4
@@ -108,13 +109,14 @@ def row_of(function):
         return None, f"no row of words: {size} bytes in {section.name}"
     if size // 4 > image.MOST_WORDS:
         return None, f"{size // 4} words: an image has at most {image.MOST_WORDS}"
-    words = (table.GNU_BARRIERS.get(word, word) for word, in struct.iter_unpack("<I", section.content[start:start + size]))
+    words = (table.GNU_BARRIERS.get(word, word)
+             for word, in struct.iter_unpack("<I", section.content[start:start + size]))
     return row_with_barriers(array.array("I", words), {(offset - start) // 4 for offset in section.loose}), None
 
 
 def row_with_barriers(words, loose=frozenset()):
-    """A condition looks at the words from a trigger to a place alone, so what is broken before a word that can't be judged is so
-    whatever that does, and one in no shadow changes nothing."""
+    """A condition looks at the words from a trigger to a place alone, so what is broken before a word that can't be
+    judged is so whatever that does, and one in no shadow changes nothing."""
     foreign, trigger, loads = [], None, []
     for n, word in enumerate(words):
         insn = insn_of(word)
@@ -133,8 +135,8 @@ def row_with_barriers(words, loose=frozenset()):
 
 
 def unsure(insn, is_loose, loads):
-    """Why a word of an object can't be judged, or None: C5 asks whether a store meets a load before it, and where one of them is by
-    a distance that the linker makes, nobody knows it yet."""
+    """Why a word of an object can't be judged, or None: C5 asks whether a store meets a load before it, and where one
+    of them is by a distance that the linker makes, nobody knows it yet."""
     if is_loose and insn.span is None and insn.name not in ("lda", "ldah"):
         return f"{insn.name}, which the linker changes"
     if insn.kind == table.STORE and any(base == insn.span[0] and (is_loose or other) for base, other in loads):
@@ -143,8 +145,8 @@ def unsure(insn, is_loose, loads):
 
 
 def foreign_text(address, row):
-    """What is said of words that can't be judged: the first of them, or the first in a shadow, and whether a /V word stands beside
-    them."""
+    """What is said of words that can't be judged: the first of them, or the first in a shadow, and whether a /V word
+    stands beside them."""
     place, word, why, trigger = next((one for one in row.foreign if one.trigger is not None), row.foreign[0])
     shadow = f", in the shadow of {address + 4 * trigger:016x}" if trigger is not None else ""
     more = f", and {len(row.foreign) - 1} more" if len(row.foreign) > 1 else ""

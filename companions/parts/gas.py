@@ -5,8 +5,8 @@ from collections import namedtuple
 
 from . import files
 
-# A statement with the columns from `start` to `end` of its line, its labels left out; `name` is empty where there is none.
-# `relocation` is what stands behind `!`, as `gpdisp`, without its number.
+# A statement with the columns from `start` to `end` of its line, its labels left out; `name` is empty where there is
+# none. `relocation` is what stands behind `!`, as `gpdisp`, without its number.
 Statement = namedtuple("Statement", "line start end labels name operands relocation")
 # A number, or a symbol with a number added.
 Expression = namedtuple("Expression", "symbol number")
@@ -184,8 +184,8 @@ def string_bytes(text):
 
 
 class Faults:
-    """The lines that can't be taken: one for each cause, with how many there are of it. A cause is what is said of a line, or the
-    option of the compiler that it names."""
+    """The lines that can't be taken: one for each cause, with how many there are of it. A cause is what is said of a
+    line, or the option of the compiler that it names."""
 
     MOST, MOST_KNOWN = 50, 1_000
     OPTION = re.compile(r": compile with (-\S+)\Z")

@@ -17,12 +17,14 @@ class Head:
             self.size = 40 + 16 * count
             self.segments = [struct.unpack_from("<QII", content, 40 + 16 * n) for n in range(count)]
         else:
-            self.base, data_base, self.entry, self.words, data, zeroed, self.stack = struct.unpack_from("<QQQIIII", content, 8)
+            self.base, data_base, self.entry, self.words, data, zeroed, self.stack = struct.unpack_from("<QQQIIII",
+                                                                                                        content, 8)
             self.size, self.level, self.segments = 48, 1, [(data_base, data, zeroed)]
 
     def regions(self):
         """(first address, bytes) of the code, the segments and the stack, but for those without bytes."""
-        found = [(self.base, 4 * self.words), *[(base, data + zeroed) for base, data, zeroed in self.segments], (END - self.stack, self.stack)]
+        found = [(self.base, 4 * self.words), *[(base, data + zeroed) for base, data, zeroed in self.segments],
+                 (END - self.stack, self.stack)]
         return [region for region in found if region[1]]
 
     def overlap(self):
@@ -37,9 +39,12 @@ class Head:
         bases = [base for base, _, _ in self.segments]
         ends = [base + data + zeroed for base, data, zeroed in self.segments]
         code_end = self.base + 4 * self.words
-        good = [is_base(self.base), all(map(is_base, bases)) and all(one < other for one, other in zip(bases, bases[1:])),
-                1 <= self.words <= MOST_WORDS and code_end <= END, all(data <= MOST_DATA for _, data, _ in self.segments),
-                sum(data + zeroed for _, data, zeroed in self.segments) <= MOST_DATA and all(end <= END for end in ends),
+        good = [is_base(self.base),
+                all(map(is_base, bases)) and all(one < other for one, other in zip(bases, bases[1:])),
+                1 <= self.words <= MOST_WORDS and code_end <= END,
+                all(data <= MOST_DATA for _, data, _ in self.segments),
+                sum(data + zeroed for _, data, zeroed in self.segments) <= MOST_DATA
+                and all(end <= END for end in ends),
                 LEAST_STACK <= self.stack <= MOST_STACK and self.stack % 16 == 0,
                 self.entry % 4 == 0 and self.base <= self.entry < code_end]
         if all(good) and self.overlap():

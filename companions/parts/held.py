@@ -1,4 +1,5 @@
-"""Two texts, or two images, held against each other by a map of words: what `same` does, and `shadowfix` with each repair."""
+"""Two texts, or two images, held against each other by a map of words: what `same` does, and `shadowfix` with each
+repair."""
 import difflib
 import re
 
@@ -12,7 +13,8 @@ def text_of(path, map_path=None, text=None):
     """The text of a path, with the symbols of a map where it is the listing of a whole program."""
     text = files.read_text(path) if text is None else text
     statements = [statement for statement in gas.statements(text) if statement.name or statement.labels]
-    return codes.Text(statements, () if map_path is None else codes.symbols_of(map_path, addresses.data_of(statements)[0]))
+    return codes.Text(statements, () if map_path is None
+                      else codes.symbols_of(map_path, addresses.data_of(statements)[0]))
 
 
 def held_texts(path, old, new, pairs, live=None):
@@ -39,14 +41,17 @@ def other_faults(old, new, pairs):
     one, other = old.data_items(), new.data_items()
     if one != other:
         at = next((n for n, (mine, its) in enumerate(zip(one, other)) if mine != its), min(len(one), len(other)))
-        yield f"`{spelled_item(one, at)}` of the old text, and `{spelled_item(other, at)}` of the new one: directives or data aren't the same"
-    if old.is_listing and any(old.base + 4 * place != new.base + 4 * image for place, image in pairs.items()) and old.numbers():
+        yield (f"`{spelled_item(one, at)}` of the old text, and `{spelled_item(other, at)}` of the new one: directives "
+               f"or data aren't the same")
+    if (old.is_listing and any(old.base + 4 * place != new.base + 4 * image for place, image in pairs.items())
+        and old.numbers()):
         place = min(old.numbers())
         yield f"words move, and a number has the address {old.base + 4 * place:#x} of code: use --aside"
 
 
 def spelled_item(items, at):
-    return "the end" if at >= len(items) else " ".join([*(f"{label}:" for label in items[at][0]), items[at][1], ",".join(items[at][2])]).strip()
+    return ("the end" if at >= len(items)
+            else " ".join([*(f"{label}:" for label in items[at][0]), items[at][1], ",".join(items[at][2])]).strip())
 
 
 def refuse(lines):
@@ -60,18 +65,22 @@ def held_images(path, old, new, pairs, symbols=()):
     """Holds a repaired image against the old one, by pairs of places; what was shown."""
     moved = next((place for place, other in sorted(pairs.items()) if old.address(place) != new.address(other)), None)
     if moved is not None:
-        raise files.Refused(f"{path}: the word at {old.address(moved):016x} moves: of images no word may, so hold the texts against each other")
-    fields = [(made.entry, made.stack, [(one.base, one.data, one.zeroed) for one in made.segments]) for made in (old, new)]
+        raise files.Refused(f"{path}: the word at {old.address(moved):016x} moves: of images no word may, so hold the "
+                            f"texts against each other")
+    fields = [(made.entry, made.stack, [(one.base, one.data, one.zeroed) for one in made.segments])
+              for made in (old, new)]
     if fields[0] != fields[1]:
         raise files.Refused(f"{path}: the entry, the stack or the data of the repair are others")
-    same = sameness.Same(codes.of_image(old, symbols), codes.of_image(new), pairs, lambda place: f"{old.address(place):016x}")
+    same = sameness.Same(codes.of_image(old, symbols), codes.of_image(new), pairs,
+                         lambda place: f"{old.address(place):016x}")
     refuse([f"{path}: {old.address(place):016x} {why}" for place, why in same.show()])
     return same
 
 
 def same_addresses(old, new):
     """The pairs of places of two images that have the same address."""
-    return {place: new.place(old.address(place)) for place in range(len(old.words)) if new.place(old.address(place)) is not None}
+    return {place: new.place(old.address(place)) for place in range(len(old.words))
+            if new.place(old.address(place)) is not None}
 
 
 def alike(old, new):
@@ -80,7 +89,8 @@ def alike(old, new):
     starts = sorted({0: 0, **pairs}.items()) if old.statements and new.statements else []
     ends = starts[1:] + [(len(old.statements), len(new.statements))]
     for (start, image_start), (end, image_end) in zip(starts, ends):
-        mine, its = [old.spelled(place) for place in range(start, end)], [new.spelled(place) for place in range(image_start, image_end)]
+        mine, its = ([old.spelled(place) for place in range(start, end)],
+                     [new.spelled(place) for place in range(image_start, image_end)])
         one = other = 0
         for block in difflib.SequenceMatcher(None, mine, its, False).get_matching_blocks():
             if block.a > one and block.b > other:
@@ -89,12 +99,13 @@ def alike(old, new):
             pairs.update((start + block.a + n, image_start + block.b + n) for n in range(block.size))
             one, other = block.a + block.size, block.b + block.size
     # Of labels that the repair has brought together the first one counts.
-    return {place: image for image, place in {image: place for place, image in sorted(pairs.items(), reverse=True)}.items()}
+    return {place: image
+            for image, place in {image: place for place, image in sorted(pairs.items(), reverse=True)}.items()}
 
 
 def spelled_map(old, new, pairs):
-    """A map of two texts: lines `OLD NEW COUNT`, for so many instructions from those on. A spot is a line, and behind a dot which
-    instruction of the line it is, where it isn't the first."""
+    """A map of two texts: lines `OLD NEW COUNT`, for so many instructions from those on. A spot is a line, and behind a
+    dot which instruction of the line it is, where it isn't the first."""
     rows, last = [], None
     for place, other in sorted(pairs.items()):
         if last is None or (place, other) != (last[0] + 1, last[1] + 1):
@@ -117,7 +128,8 @@ def read_map(path, at_old, at_new, counts):
             places = None, None
         count = int(match[3] or 1) if match else 0
         if None in places or any(place + count > most for place, most in zip(places, counts)):
-            raise files.Refused(f"{path}:{number}: no line `OLD NEW COUNT` with two places where COUNT words are, by address or line")
+            raise files.Refused(f"{path}:{number}: no line `OLD NEW COUNT` with two places where COUNT words are, by "
+                                f"address or line")
         for n in range(count):
             pairs[places[0] + n] = places[1] + n
     return pairs

@@ -46,7 +46,8 @@ class Image:
 
 
 def read_image(path):
-    """The image of a file. Only its layout is looked at here; the program judges whether its fields and words are good."""
+    """The image of a file. Only its layout is looked at here; the program judges whether its fields and words are
+    good."""
     return image_of(files.read_bytes(path, files.MOST_IMAGE), path)
 
 

@@ -24,13 +24,13 @@ MEMORY, BRANCHES = set(table.MEMORY.values()), set(table.BRANCH.values())
 PAIRS = {"negl": "subl", "negq": "subq", "negl/v": "subl/v", "negq/v": "subq/v", "not": "ornot", "sextl": "addl"}
 ALONE = {"nop", "unop", "trapb", "excb", "mb", "wmb"} | set(table.PAL.values())
 # The names of the source language, those of pseudo-operations too.
-NAMES = OPERATE | table.UNARY | MEMORY | BRANCHES | ALONE | set(table.JUMP) | set(PAIRS) | set(table.FETCHES.values()) | {
-    "mov", "clr", "call_pal"}
+NAMES = (OPERATE | table.UNARY | MEMORY | BRANCHES | ALONE | set(table.JUMP) | set(PAIRS) | set(table.FETCHES.values())
+         | {"mov", "clr", "call_pal"})
 DIVISIONS = {f"{what}{size}{sign}" for what in ("div", "rem") for size in "lq" for sign in ("", "u")}
 TRIGGER = re.compile(r"(addl|addq|subl|subq|mull|mulq|negl|negq)(?:v|/v)\Z")
 BARRIERS = {"trapb", "excb", "draint", "call_pal", "rduniq", "wruniq"} | set(table.PAL.values())
-FLOATING = ("ldt", "lds", "ldf", "ldg", "stt", "sts", "stf", "stg", "cpys", "cvt", "addt", "adds", "subt", "subs", "mult",
-            "muls", "divt", "divs", "cmpt", "fcmov", "fb", "itof", "ftoi", "sqrt", "mf_fpcr", "mt_fpcr", "fnop")
+FLOATING = ("ldt", "lds", "ldf", "ldg", "stt", "sts", "stf", "stg", "cpys", "cvt", "addt", "adds", "subt", "subs",
+            "mult", "muls", "divt", "divs", "cmpt", "fcmov", "fb", "itof", "ftoi", "sqrt", "mf_fpcr", "mt_fpcr", "fnop")
 LITERAL_USES = {None, "lituse_base", "lituse_bytoff", "lituse_addr"}
 JUMP_USES = {None, "lituse_jsr", "lituse_jsrdirect"}
 
@@ -84,8 +84,8 @@ def sets_up_gp(statement):
 
 
 def namers(statements, wanted):
-    """The statements that name a register, but for those that shadowfix made: a /V word into it, a barrier, and a move from
-    it. Behind these nothing is in it that anybody needs."""
+    """The statements that name a register, but for those that shadowfix made: a /V word into it, a barrier, and a move
+    from it. Behind these nothing is in it that anybody needs."""
     names = sorted(name for name, number_of_it in gas.REGISTERS.items() if number_of_it == wanted)
     named = re.compile("(?:" + "|".join(map(re.escape, names)) + r")(?![\w$])")
     said = (statement for statement in statements if statement.name)
@@ -93,14 +93,16 @@ def namers(statements, wanted):
     ahead, before = list(itertools.islice(said, 3)), (False, False)
     while ahead:
         begins = len(ahead) == 3 and is_repair(*ahead)
-        if not begins and not before[1] and any(named.search(text) for text in ahead[0].operands if not text.startswith('"')):
+        if (not begins and not before[1]
+            and any(named.search(text) for text in ahead[0].operands if not text.startswith('"'))):
             yield ahead[0]
         before = begins, before[0]
         ahead = [*ahead[1:], *itertools.islice(said, 1)]
 
 
 def is_repair(one, barrier, move):
-    return TRIGGER.match(one.name) and barrier.name in BARRIERS and move.name == "mov" and move.operands[:1] == one.operands[-1:]
+    return (TRIGGER.match(one.name) and barrier.name in BARRIERS and move.name == "mov"
+            and move.operands[:1] == one.operands[-1:])
 
 
 def high_of(statement):
@@ -111,9 +113,9 @@ def high_of(statement):
 
 
 class Translator:
-    """Translates the instructions of one file. `spare_at` says that nothing in it is kept in $28, `has_gp` that $29 is set
-    up in it as the pointer to a table of addresses, which the product hasn't; `splits` that lower halves of addresses stand
-    in `lda` alone, as the source of a module has them."""
+    """Translates the instructions of one file. `spare_at` says that nothing in it is kept in $28, `has_gp` that $29 is
+    set up in it as the pointer to a table of addresses, which the product hasn't; `splits` that lower halves of
+    addresses stand in `lda` alone, as the source of a module has them."""
 
     def __init__(self, statements, splits=False):
         self.has_gp, self.splits, self.is_level_two = False, splits, False
@@ -184,8 +186,8 @@ class Translator:
     @staticmethod
     def unknown(name):
         if name == "stt":
-            return "`stt` is of floating point, which the product doesn't have: where a function with variable arguments saves " \
-                "registers by it, compile with -mno-fp-regs"
+            return ("`stt` is of floating point, which the product doesn't have: where a function with variable "
+                    "arguments saves registers by it, compile with -mno-fp-regs")
         if name.startswith(FLOATING):
             return f"`{name}` is of floating point, which the product doesn't have"
         if name in ("rpcc", "rc", "rs", "wh64", "wh64en", "ecb"):
@@ -209,7 +211,8 @@ class Translator:
         if name == "implver" or len(operands) != 2:
             raise Untold(f"`{name}` with {len(operands)} operands")
         first = operands[0]
-        return f"{name} {f'${register(first)}' if first.startswith('$') else number(first, 0, 255)},${register(operands[1])}"
+        source = f"${register(first)}" if first.startswith("$") else number(first, 0, 255)
+        return f"{name} {source},${register(operands[1])}"
 
     def memory(self, name, operands, relocation):
         if len(operands) != 2:
@@ -237,7 +240,8 @@ class Translator:
             return [f"ldah ${target},%hi({symbol})($31)"]
         if relocation == "gprellow" and base not in (None, GP) and name != "ldah":
             return self.by_lower_half(name, target, expression, base)
-        if relocation == "literal" and name == "ldq" and base == GP or relocation is None and name == "lda" and base is None:
+        if (relocation == "literal" and name == "ldq" and base == GP
+            or relocation is None and name == "lda" and base is None):
             return address_lines(target, expression)
         if relocation in ("gprel", "gprel16") and base == GP or relocation is None and base is None:
             return self.through(name, target, expression)
@@ -269,8 +273,8 @@ class Translator:
         return [f"lda ${by},%lo({marked(near)})(${base})", f"{name} ${target},{distance}(${by})"]
 
     def half_near(self, expression):
-        """The symbol with a number by which an address is made, with a distance added to it. Where the file has one upper half
-        of the symbol it is that one, whose two halves fit together wherever a link puts the data."""
+        """The symbol with a number by which an address is made, with a distance added to it. Where the file has one
+        upper half of the symbol it is that one, whose two halves fit together wherever a link puts the data."""
         highs = [high for high in self.highs if high.symbol == expression.symbol]
         if len(highs) == 1 and abs(expression.number - highs[0].number) <= 32_767:
             return highs[0]

@@ -17,8 +17,8 @@ PAGE = 8_192
 
 
 class Joined:
-    """Several units with their names made those of one source. Where it is the source of a module, `prefix` is what its local
-    labels begin with: names that are no local labels stay as they are, whether the module defines them or not."""
+    """Several units with their names made those of one source. Where it is the source of a module, `prefix` is what its
+    local labels begin with: names that are no local labels stay as they are, whether the module defines them or not."""
 
     def __init__(self, parts, faults, prefix=None):
         self.units, self.faults, self.prefix = parts, faults, prefix
@@ -65,7 +65,8 @@ class Joined:
         """A name that modules have in common, which must be a label as it is."""
         if not LABEL.fullmatch(name):
             owner = self.owners.get(name, self.units[0])
-            self.faults.add(owner.path, owner.labels.get(name, 1), f"{name} is a name for other modules, and no label here")
+            self.faults.add(owner.path, owner.labels.get(name, 1),
+                            f"{name} is a name for other modules, and no label here")
         return name
 
     def resolved(self, unit, name, steps=0):
@@ -87,21 +88,25 @@ class Joined:
             name = self.resolved(unit, match[1])
             if name is None:
                 line = int(re.match(r".*?:([0-9]+)", note)[1])
-                self.faults.add(unit.path, line, f"nothing defines {match[1]}{self.hidden(match[1]) or remedy(match[1])}")
+                self.faults.add(unit.path, line,
+                                f"nothing defines {match[1]}{self.hidden(match[1]) or remedy(match[1])}")
                 return match[1]
             return name if int(match[2]) == 0 else name + match[2]
         return MARKED.sub(named, text)
 
     def hidden(self, name):
         """Says of a name that a file keeps to itself how others may know it."""
-        return next((f": it is a label of {unit.path}, without .globl" for unit in self.units if name in unit.labels), "")
+        return next((f": it is a label of {unit.path}, without .globl" for unit in self.units if name in unit.labels),
+                    "")
 
     def lines(self, entry):
         """The lines of the source. That of a module has no entry."""
         if self.prefix is None and entry not in self.owners:
-            self.faults.add(self.units[0].path, 1, f"no file defines the entry {entry} with .globl" + self.entries(entry))
+            self.faults.add(self.units[0].path, 1,
+                            f"no file defines the entry {entry} with .globl" + self.entries(entry))
             return []
-        lines = ["\t.code"] if self.prefix is not None else [f"\t.entry {self.resolved(self.owners[entry], entry)}", "\t.code"]
+        lines = (["\t.code"] if self.prefix is not None
+                 else [f"\t.entry {self.resolved(self.owners[entry], entry)}", "\t.code"])
         for unit, section in self.of_kind(units.CODE):
             lines += self.section_lines(unit, section)
         data = [line for unit, section in self.of_kind(units.DATA) for line in self.section_lines(unit, section)]
@@ -119,9 +124,10 @@ class Joined:
             f" and {len(names) - 10} more" if len(names) > 10 else "")
 
     def look_at_halves(self, lines):
-        """Two words that make an address by its halves may name one symbol with two numbers added: then the upper halves
-        must be the same in the source, as they were where the compiler laid out the data."""
-        lows = {unit: unit.translator.lows - (unit.translator.highs if self.prefix is None else set()) for unit in self.units}
+        """Two words that make an address by its halves may name one symbol with two numbers added: then the upper
+        halves must be the same in the source, as they were where the compiler laid out the data."""
+        lows = {unit: unit.translator.lows - (unit.translator.highs if self.prefix is None else set())
+                for unit in self.units}
         if not any(lows.values()):
             return
         laid = places.Source("the source", "\n".join(lines))
@@ -133,9 +139,11 @@ class Joined:
                 for high in unit.translator.highs:
                     if high.symbol == low.symbol and (address is None or
                                                       half(address + high.number) != half(address + low.number)):
-                        self.faults.add(unit.path, 1, f"{low.symbol}{low.number:+d} is reached by the upper half of the address "
+                        self.faults.add(unit.path, 1,
+                                        f"{low.symbol}{low.number:+d} is reached by the upper half of the address "
                                         f"of {high.symbol}{high.number:+d}, which " +
-                                        ("is another one here" if self.prefix is None else "may be another one after a link"))
+                                        ("is another one here" if self.prefix is None
+                                         else "may be another one after a link"))
 
     def of_kind(self, kind):
         return [(unit, section) for unit in self.units for section in unit.sections.values()
@@ -156,7 +164,8 @@ class Joined:
         if unit not in self.mentioned:
             texts = [text for section in unit.sections.values() for item in section.items
                      for text in (item.items if isinstance(item, units.Values) else [getattr(item, "text", "")])]
-            self.mentioned[unit] = {match[1] for text in texts if isinstance(text, str) for match in MARKED.finditer(text)}
+            self.mentioned[unit] = {match[1] for text in texts if isinstance(text, str)
+                                    for match in MARKED.finditer(text)}
             self.mentioned[unit].update(unit.synonyms.values())
         return not label.startswith(("$", ".L")) or label in self.mentioned[unit]
 
@@ -181,7 +190,8 @@ class Joined:
         """The labels of a module for names that are set to be a label's, by which other modules may know it."""
         if self.prefix is None:
             return []
-        return [f"{self.kept(name)}:" for name, meant in unit.synonyms.items() if meant == label and name in unit.globals]
+        return [f"{self.kept(name)}:" for name, meant in unit.synonyms.items()
+                if meant == label and name in unit.globals]
 
     def zeros(self, unit, item):
         """The number of bytes of an item, which must all be 0."""
@@ -229,7 +239,8 @@ def remedy(name):
     if name.startswith("__") and name[2:] in DIVISIONS:
         return ": give companions/divide.s as a further file"
     if name in OF_LIBRARY:
-        return ": gcc calls it by itself, so a further file must have it, compiled with -fno-tree-loop-distribute-patterns"
+        return (": gcc calls it by itself, so a further file must have it, compiled with "
+                "-fno-tree-loop-distribute-patterns")
     if OF_LIBGCC.fullmatch(name):
         return ": gcc has it in its own library, libgcc, so a further file must have it"
     return ""

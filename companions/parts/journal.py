@@ -6,7 +6,8 @@ from . import files
 MAGIC, HEAD = b"ALPHAJR1", 38
 COMPLETIONS = ("wrap", "saturate", "stop")
 # The endings by kind, each with what its numbers are.
-ENDINGS = (("none", ()), ("exit", ("value",)), ("signal", ("code", "pc")), ("fetch", ("pc",)), ("access", ("pc", "address")),
+ENDINGS = (("none", ()), ("exit", ("value",)), ("signal", ("code", "pc")), ("fetch", ("pc",)),
+           ("access", ("pc", "address")),
            ("align", ("pc", "address")), ("lost", ("pc", "mask")), ("overflow", ("pc",)))
 MOST_BYTES, MOST_ITEMS, MOST_UNITS = 8_388_608, 1_048_576, 1_000_000_000
 UNITS, TRIGGER, WAIT, REPORT = "units", "trigger", "wait", "report"
@@ -24,8 +25,8 @@ class BadJournal(files.Refused):
 
 
 class Journal:
-    """A run: its completion, its ending (a name and its two numbers), its input and its output, and its items, each a tuple
-    of its kind and its numbers."""
+    """A run: its completion, its ending (a name and its two numbers), its input and its output, and its items, each a
+    tuple of its kind and its numbers."""
 
     def __init__(self, completion, ending, given, put, items):
         self.completion, self.ending, self.given, self.put, self.items = completion, ending, given, put, items
@@ -34,7 +35,8 @@ class Journal:
         """Its bytes."""
         name, first, second = self.ending
         kind = [known for known, _ in ENDINGS].index(name)
-        head = struct.pack("<8sBBQQIII", MAGIC, COMPLETIONS.index(self.completion), kind, first, second, len(self.given),
+        head = struct.pack("<8sBBQQIII", MAGIC, COMPLETIONS.index(self.completion), kind, first, second,
+                           len(self.given),
                            len(self.put), len(self.items))
         return head + self.given + self.put + b"".join(map(item_bytes, self.items))
 
@@ -68,15 +70,18 @@ def journal_of(content):
     magic, completion, kind, first, second, given, put, count = struct.unpack_from("<8sBBQQIII", content)
     if magic != MAGIC:
         raise BadJournal(2, 0, "it doesn't begin with ALPHAJR1")
-    bad = [completion < 3, kind < len(ENDINGS), unused_are_zero(kind, first, second), given <= MOST_BYTES, put <= MOST_BYTES,
+    bad = [completion < 3, kind < len(ENDINGS), unused_are_zero(kind, first, second), given <= MOST_BYTES,
+           put <= MOST_BYTES,
            count <= MOST_ITEMS]
     if not all(bad):
         raise BadJournal(3, bad.index(False) + 1, FIELDS[bad.index(False) + 1])
     at = HEAD + given + put
     if len(content) < at:
-        raise BadJournal(1, len(content), f"it has {len(content)} bytes, and with its input and output there are {at} before the items")
+        raise BadJournal(1, len(content),
+                         f"it has {len(content)} bytes, and with its input and output there are {at} before the items")
     items, end = items_of(content, at, count)
-    journal = Journal(COMPLETIONS[completion], (ENDINGS[kind][0], first, second), content[HEAD:HEAD + given], content[HEAD + given:at],
+    journal = Journal(COMPLETIONS[completion], (ENDINGS[kind][0], first, second), content[HEAD:HEAD + given],
+                      content[HEAD + given:at],
                       items)
     if journal.units() > MOST_UNITS:
         raise BadJournal(5, 0, f"its items use {journal.units()} units, and {MOST_UNITS} are the most")
@@ -148,7 +153,8 @@ def text_of(journal):
     """A line for each part and each item. A comment behind every tenth item has its number."""
     lines = [f"completion {journal.completion}", f"ending {ending_text(journal.ending)}"]
     lines += byte_lines("input", journal.given) + byte_lines("output", journal.put)
-    lines += [item_text(item) + (f"  # item {number}" if number % 10 == 0 else "") for number, item in enumerate(journal.items)]
+    lines += [item_text(item) + (f"  # item {number}" if number % 10 == 0 else "")
+              for number, item in enumerate(journal.items)]
     return "\n".join(lines) + "\n"
 
 
@@ -173,7 +179,8 @@ def take_line(found, words):
     kind, *rest = words
     if kind == "completion" and len(rest) == 1 and rest[0] in COMPLETIONS and found.completion is None:
         found.completion = rest[0]
-    elif kind == "ending" and rest and rest[0] in dict(ENDINGS) and len(rest) == 1 + len(dict(ENDINGS)[rest[0]]) and found.ending is None:
+    elif (kind == "ending" and rest and rest[0] in dict(ENDINGS) and len(rest) == 1 + len(dict(ENDINGS)[rest[0]])
+          and found.ending is None):
         numbers = [number(word, 64) for word in rest[1:]]
         found.ending = (rest[0], *numbers, *[0] * (2 - len(numbers)))
     elif kind == "input" and len(rest) == 1:

@@ -5,8 +5,8 @@ from . import broken, files, functions, image, shadows, table
 
 
 def verdicts(asked, found, jobs, of_all=False):
-    """What is to be said of each function, in lines: its verdict, or why it has none; and where `of_all` says so, each of its broken
-    triggers. Equal words have equal verdicts."""
+    """What is to be said of each function, in lines: its verdict, or why it has none; and where `of_all` says so, each
+    of its broken triggers. Equal words have equal verdicts."""
     told = list(rows_of(found))
     rows = {id(row): row for row, _ in told if row is not None}
     keys = {number: row.words.tobytes() for number, row in rows.items() if not row.is_idle}
@@ -75,7 +75,8 @@ def broken_text(address, verdict):
 
 
 def every_line(asked, address, row):
-    """A line for each broken trigger of a function, and for each other one in whose shadow a word stands that can't be judged."""
+    """A line for each broken trigger of a function, and for each other one in whose shadow a word stands that can't be
+    judged."""
     words = list(row.words)
     whole = broken.image_of(words)
     found = broken.every_broken(asked, whole, shadows.Code(words), 1)
@@ -86,7 +87,8 @@ def every_line(asked, address, row):
             left.append(n)
         elif n in foreign:
             one = foreign[n]
-            lines += [(whole.address(at), f"  no verdict of trigger {address + 4 * at:016x}: {address + 4 * n:016x} is {one.word:08x}: "
+            lines += [(whole.address(at),
+                       f"  no verdict of trigger {address + 4 * at:016x}: {address + 4 * n:016x} is {one.word:08x}: "
                        f"{one.why}") for at in left if at not in is_broken]
         if insn.kind in (table.BARRIER, table.TURN):
             left = []

@@ -1,7 +1,7 @@
 """Lines that the program writes to standard error, and what the pages say of each.
 
-The pages have the forms of the lines: `lost A mask M` of docs/commands.md stands for all lines of that form, and A and M for
-what a line has there. A capital letter alone stands so for a number, A and B for addresses.
+The pages have the forms of the lines: `lost A mask M` of docs/commands.md stands for all lines of that form, and A and
+M for what a line has there. A capital letter alone stands so for a number, A and B for addresses.
 """
 import re
 
@@ -18,7 +18,8 @@ ROWS_ALONE = ("images.md", "source.md", "modules.md")
 NUMBERED = ("K", "No.", "Number")
 # Where more is said: the beginning of a line, a page, and the beginning of a heading there.
 LEADS = [("unfixable ", "fix.md", "Unfixable"), ("fixed ", "fix.md", "Fixed"), ("far ", "fix.md", "Far"),
-         ("far ", PAGE, "`source kind"), ("source kind 1 ", "source.md", "Faults"), ("far kind 1 ", "source.md", "Faults"),
+         ("far ", PAGE, "`source kind"), ("source kind 1 ", "source.md", "Faults"),
+         ("far kind 1 ", "source.md", "Faults"),
          ("source kind 8 ", "images.md", "The rules"), ("far kind 8 ", "images.md", "The rules"),
          ("image kind 3 ", "images.md", "The rules"), ("link kind 4 ", "images.md", "The rules"),
          ("module ", "modules.md", "When `link` refuses"), ("link ", "modules.md", "When `link` refuses"),
@@ -162,8 +163,8 @@ def rows_of(block, said):
 
 
 def by_kind(block, said):
-    """The row of a kind, and that of its detail, which stands below it with an empty first cell; none where one of them is
-    missing."""
+    """The row of a kind, and that of its detail, which stands below it with an empty first cell; none where one of them
+    is missing."""
     is_meant, has_details, found = False, False, []
     for row in block.rows:
         if row[0]:
@@ -256,7 +257,8 @@ class Known:
     def bad_word(self, letter, number):
         if letter == "S":
             known = table.GNU_BARRIERS.get(number)
-            why = f"GNU's word of {table.insn_of(known).name}, which is {known:08x} here" if known else table.reason(number)
+            why = (f"GNU's word of {table.insn_of(known).name}, which is {known:08x} here" if known
+                   else table.reason(number))
             return f"in hexadecimal {number:08x}, {why}"
         if letter == "F" and self.options.image is not None:
             given = image.read_image(self.options.image)

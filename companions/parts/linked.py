@@ -1,4 +1,5 @@
-"""What the companions want of a linked file, whether it is ELF's or ECOFF's: sections, symbols, and where an address lies."""
+"""What the companions want of a linked file, whether it is ELF's or ECOFF's: sections, symbols, and where an address
+lies."""
 import bisect
 import functools
 import struct
@@ -10,8 +11,8 @@ PROGBITS, NOBITS = 1, 8
 EXEC, TLS = 4, 0x400
 # The bytes of a block in which names are read, and of the longest name.
 BLOCK, LONGEST_NAME = 1 << 14, 1 << 15
-# A section in memory; `content` is empty where it is one of zeroed bytes, NOBITS. `loose` has the offsets of the words of an
-# object whose lower half the linker is to make.
+# A section in memory; `content` is empty where it is one of zeroed bytes, NOBITS. `loose` has the offsets of the words
+# of an object whose lower half the linker is to make.
 Section = namedtuple("Section", "name kind flags address content size loose", defaults=(frozenset(),))
 # A symbol; its size is 0 where the file doesn't say one, its kind label, object or func.
 Symbol = namedtuple("Symbol", "address size kind name")
@@ -85,12 +86,14 @@ class Linked:
         return []
 
     def at(self, address):
-        """The symbol before an address and the distance from it, as `main+0x10`; the address alone where there is none."""
+        """The symbol before an address and the distance from it, as `main+0x10`; the address alone where there is
+        none."""
         before = [symbol for symbol in self.symbols if symbol.address <= address and symbol.kind != "object"]
         if not before:
             return f"{address:#x}"
         last = before[-1]
-        near = max((symbol for symbol in before if symbol.address == last.address), key=lambda symbol: symbol.kind == "func")
+        near = max((symbol for symbol in before if symbol.address == last.address),
+                   key=lambda symbol: symbol.kind == "func")
         return near.name + (f"+{address - near.address:#x}" if address > near.address else "")
 
 

@@ -1,9 +1,9 @@
 """Which registers hold a value that may still be read, behind each instruction of a text or an image.
 
-What each instruction reads and writes is that of the one table; where the flow goes is that of `flow`. A return goes back
-behind the calls that it is shown to come from, so what a caller keeps over a call counts, by whatever agreement the two have.
-Only of code that isn't there the calling standard says what it reads and keeps. Of all that can't be followed every register
-counts as read.
+What each instruction reads and writes is that of the one table; where the flow goes is that of `flow`. A return goes
+back behind the calls that it is shown to come from, so what a caller keeps over a call counts, by whatever agreement
+the two have. Only of code that isn't there the calling standard says what it reads and keeps. Of all that can't be
+followed every register counts as read.
 """
 from . import flow, steps
 
@@ -13,7 +13,8 @@ RESULT = 0
 CALL_READS = ARGUMENTS | steps.bits(25, steps.PV, steps.GP, steps.SP)
 DIVISION_READS = steps.bits(24, 25, steps.PV, steps.GP, steps.SP)
 # What a caller that isn't there may read behind a return.
-BACK = {steps.RA: flow.KEPT | steps.bits(RESULT, steps.RA, steps.GP), steps.BY_DIVISION: steps.ALL & ~steps.bits(steps.AT)}
+BACK = {steps.RA: flow.KEPT | steps.bits(RESULT, steps.RA, steps.GP),
+        steps.BY_DIVISION: steps.ALL & ~steps.bits(steps.AT)}
 
 
 class Liveness:
@@ -32,7 +33,8 @@ class Liveness:
                        for place in range(len(code.steps))]
 
     def calls_by_target(self):
-        """The places of calls, by where they lead, or by the register that they leave their address in where that isn't seen."""
+        """The places of calls, by where they lead, or by the register that they leave their address in where that isn't
+        seen."""
         found = {}
         for place in self.places:
             step = self.code.steps[place]
@@ -107,7 +109,8 @@ class Liveness:
         return reads(step) | found & ~step.insn.sets
 
     def leaving(self, place):
-        """What may be read where control leaves a function at a place: by a call, behind it too, by a return, or elsewhere."""
+        """What may be read where control leaves a function at a place: by a call, behind it too, by a return, or
+        elsewhere."""
         found, step = self.behind[place], self.code.steps[place]
         if steps.is_call(step):
             found |= self.read_by(self.key(place, step), self.callees)

@@ -1,4 +1,5 @@
-"""What a system loads of a file, by the headers that it goes by, held against the sections by which code and data are told apart."""
+"""What a system loads of a file, by the headers that it goes by, held against the sections by which code and data are
+told apart."""
 import bisect
 import itertools
 import struct
@@ -19,7 +20,9 @@ def of_headers(whole, at, size, count):
     if count and size != struct.calcsize(ROW):
         raise ValueError("program headers of another size")
     rows = whole.rows(ROW, at, count)
-    loads = Loads(whole, [Load(flags, offset, address, held, memory) for kind, flags, offset, address, _, held, memory, _ in rows
+    loads = Loads(whole,
+                  [Load(flags, offset, address, held, memory)
+                   for kind, flags, offset, address, _, held, memory, _ in rows
                           if kind == LOAD and memory])
     loads.look_at_rows()
     return loads
@@ -33,17 +36,20 @@ class Loads:
         self.ends = [one.address + one.size for one in loads]
 
     def look_at_rows(self):
-        """Linux maps whole pages, a later part's over an earlier one's: so where two share a page, it must be the same of both."""
+        """Linux maps whole pages, a later part's over an earlier one's: so where two share a page, it must be the same
+        of both."""
         for one in self.loads:
             if one.held > one.size or one.address + one.size >> 64:
                 raise ValueError("a part of memory that can't be")
             if (one.address - one.offset) % PAGE:
-                self.whole.refuse(f"the part of memory at {one.address:#x} has another place in its page than in the file")
+                self.whole.refuse(f"the part of memory at {one.address:#x} has another place in its page than in the "
+                                  f"file")
             if one.held:
                 self.whole.file.part(one.offset + one.held, 0)
         for low, high in zip(self.loads, self.loads[1:]):
             shares = (low.address + low.size - 1) // PAGE >= high.address // PAGE
-            if low.address + low.size > high.address or shares and low.address - low.offset != high.address - high.offset:
+            if (low.address + low.size > high.address
+                or shares and low.address - low.offset != high.address - high.offset):
                 self.whole.refuse(f"two parts of memory share the page of {high.address:#x}, which the file has twice")
 
     def of(self, address, size):
@@ -60,7 +66,8 @@ class Loads:
                 break
             start, end = max(address, one.address), min(address + size, one.address + one.held)
             if start < end:
-                found[start - address:end - address] = self.whole.file.part(one.offset + start - one.address, end - start)
+                found[start - address:end - address] = self.whole.file.part(one.offset + start - one.address,
+                                                                            end - start)
         return bytes(found)
 
     def hold(self, sections):
@@ -77,12 +84,15 @@ class Loads:
                 size = min(PIECE, held - start)
                 wanted = section.content[start:start + size] if section.kind != linked.NOBITS else bytes(size)
                 if self.content(section.address + start, size) != wanted:
-                    self.whole.refuse(f"section {section.name} at {section.address:#x} has other bytes than are loaded there")
+                    self.whole.refuse(f"section {section.name} at {section.address:#x} has other bytes than are loaded "
+                                      f"there")
             if section.flags & linked.EXEC and not load.flags & EXECUTE:
-                self.whole.refuse(f"section {section.name} at {section.address:#x} has instructions, and isn't loaded as code")
+                self.whole.refuse(f"section {section.name} at {section.address:#x} has instructions, and isn't loaded "
+                                  f"as code")
 
     def beside(self, sections):
-        """The stretches that are loaded as code and are in no section of instructions, but for fillers: (address, size)."""
+        """The stretches that are loaded as code and are in no section of instructions, but for fillers: (address,
+        size)."""
         code = [section for section in sections if section.flags & linked.EXEC]
         begins = [section.address for section in code]
         for load in self.loads:
@@ -99,6 +109,7 @@ class Loads:
         """Whether anything but fillers is loaded between two addresses."""
         for at in range(start, end, PIECE):
             content = self.content(at, min(PIECE, end - at))
-            if any(content) and {word for word, in struct.iter_unpack("<I", content + bytes(-len(content) % 4))} - FILLERS:
+            if (any(content)
+                and {word for word, in struct.iter_unpack("<I", content + bytes(-len(content) % 4))} - FILLERS):
                 return True
         return False

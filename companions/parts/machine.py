@@ -1,8 +1,8 @@
 """A model of both machines, by docs/machines.md: the sequential one, and the one whose traps come late.
 
-It repeats what crates/alpha_seq, alpha_trap and alpha_imprecise define. Whoever shows something by it holds it against the
-program's verdicts, and the test holds its runs against the program's. What an operate instruction gives are the functions of
-bench/worked.py, which are held against measured results.
+It repeats what crates/alpha_seq, alpha_trap and alpha_imprecise define. Whoever shows something by it holds it against
+the program's verdicts, and the test holds its runs against the program's. What an operate instruction gives are the
+functions of bench/worked.py, which are held against measured results.
 """
 import os
 import sys
@@ -36,12 +36,15 @@ def word_of(number):
 
 
 class Machine:
-    """A program at the start. `end` is None, or how it has ended: a name of journal.ENDINGS and two numbers. `waited` is None
-    where no trap is pending, else how many words were executed since its trigger; `mask` has the trap's registers."""
+    """A program at the start. `end` is None, or how it has ended: a name of journal.ENDINGS and two numbers. `waited`
+    is None where no trap is pending, else how many words were executed since its trigger; `mask` has the trap's
+    registers."""
 
     def __init__(self, image, completion, given):
-        if sum(len(one.data) + one.zeroed for one in image.segments) > MOST_DATA or image.stack > MOST_STACK or image.level > 2:
-            raise files.Refused("it is no image: its level is above 2, or its data or its stack has more bytes than one may have")
+        if (sum(len(one.data) + one.zeroed for one in image.segments) > MOST_DATA or image.stack > MOST_STACK
+            or image.level > 2):
+            raise files.Refused("it is no image: its level is above 2, or its data or its stack has more bytes than "
+                                "one may have")
         known = {number: word_of(number) for number in set(image.words)}
         self.words = [known[number] for number in image.words]
         self.image, self.completion, self.level = image, completion, image.level or 1
@@ -281,8 +284,8 @@ class Machine:
         return "overflow"
 
     def scan(self):
-        """The greatest place before the PC that has /V, so that each register of the mask is the destination of it or of a /V
-        word behind it, with no barrier and no turn between; or None."""
+        """The greatest place before the PC that has /V, so that each register of the mask is the destination of it or
+        of a /V word behind it, with no barrier and no turn between; or None."""
         end = self.image.address(len(self.words))
         place, found = len(self.words) if self.pc == end else self.image.place(self.pc), 0
         if place is None or self.mask == 0:

@@ -1,4 +1,5 @@
-"""Where the text is that a word was made of: the line and the column of the compiler's text, of a source, and of the C program."""
+"""Where the text is that a word was made of: the line and the column of the compiler's text, of a source, and of the C
+program."""
 import functools
 import os
 import re
@@ -12,7 +13,8 @@ NAMED = re.compile(r"(\S+):([0-9]+)")
 
 
 def spots(known, address):
-    """The spots of an address, the compiler's text first where a comment of the source says it, then the source itself."""
+    """The spots of an address, the compiler's text first where a comment of the source says it, then the source
+    itself."""
     source = known.source_of(address)
     line = None if source is None else source.lines.get(address)
     if line is None:

@@ -1,4 +1,5 @@
-"""Where an address comes from: the line of a source or of those of modules, the line of a listing, the symbol of a map."""
+"""Where an address comes from: the line of a source or of those of modules, the line of a listing, the symbol of a
+map."""
 import bisect
 import os
 import re
@@ -48,8 +49,8 @@ class Names:
 
 
 class Source:
-    """The lines of a source by their addresses, laid out as docs/source.md says. It takes a source that `asm` takes, or one
-    that `module` takes with the bases that a link gives it."""
+    """The lines of a source by their addresses, laid out as docs/source.md says. It takes a source that `asm` takes, or
+    one that `module` takes with the bases that a link gives it."""
 
     def __init__(self, path, text=None, code=CODE_BASE, data=DATA_BASE):
         self.path, self.lines, self.names, self.functions = path, {}, Names(), Names()
@@ -68,7 +69,8 @@ class Source:
             self.ends[self.code_base], self.ends[self.begin] = at["code"], at["data"]
 
     def refuse(self, statement, why):
-        raise files.Refused(f"{self.path}:{statement.line}: {why}: is it a source that `asm` takes, as gas2source makes one?")
+        raise files.Refused(f"{self.path}:{statement.line}: {why}: is it a source that `asm` takes, as gas2source "
+                            f"makes one?")
 
     def number(self, statement):
         try:
@@ -109,7 +111,8 @@ class Source:
         return section
 
     def has(self, address, with_end=True):
-        """Whether the code or a segment of the data has the address. That of its end counts, where a label may stand."""
+        """Whether the code or a segment of the data has the address. That of its end counts, where a label may
+        stand."""
         return any(start <= address < end or with_end and address == end for start, end in self.ends.items())
 
     def is_trigger(self, address):
@@ -158,7 +161,8 @@ class Places:
             given = image.read_image(path)
             for name, address in self.names.functions.items():
                 if given.place(address) is None:
-                    raise files.Refused(f"{path} has no code at {address:016x}, where the map has {name}: is it the map of "
+                    raise files.Refused(f"{path} has no code at {address:016x}, where the map has {name}: is it the "
+                                        f"map of "
                                         "that image?")
 
     def strange(self, text):
@@ -166,8 +170,8 @@ class Places:
         match = OF_TRIGGER.match(text)
         if match is None or not self.sources or any(source.is_trigger(int(match[1], 16)) for source in self.sources):
             return None
-        return f"by --source no /V word is at {match[1]}: are these the sources of the image, in the order of the link? " \
-            "--image IMAGE tells where they differ"
+        return (f"by --source no /V word is at {match[1]}: are these the sources of the image, in the order of the "
+                "link? --image IMAGE tells where they differ")
 
     def source_of(self, address):
         """The source that has an address: one where it isn't the end before another's, or None."""
@@ -204,7 +208,8 @@ class Places:
         if rest or place < 0 or start + place >= len(self.listing):
             return None
         text = self.listing[start + place]
-        return None if text.startswith((".data", ".segment", ".byte", ".zero")) else f"line {start + place + 1} of the listing: {text}"
+        return (None if text.startswith((".data", ".segment", ".byte", ".zero"))
+                else f"line {start + place + 1} of the listing: {text}")
 
 
 def read_map(path):
@@ -222,7 +227,8 @@ def read_map(path):
 def with_places(parser):
     """The arguments for where an image comes from."""
     parser.add_argument("--source", metavar="FILE", action="append",
-                        help="the source that the image was assembled of; once for each module where it was linked, in the order "
+                        help="the source that the image was assembled of; once for each module where it was linked, in "
+                             "the order "
                         "of the link")
     parser.add_argument("--map", metavar="FILE", help="the map of symbols that elf2image kept")
     return parser

@@ -6,7 +6,8 @@ ITEM, OUTPUT, END, INPUT = 1, 2, 3, 4
 
 
 class Fault:
-    """What is wrong first: a kind and a number as the program has them, and why. `step` is the step within a Units, from 1."""
+    """What is wrong first: a kind and a number as the program has them, and why. `step` is the step within a Units,
+    from 1."""
 
     def __init__(self, kind, at, why, step=None):
         self.kind, self.at, self.why, self.step = kind, at, why, step
@@ -16,8 +17,8 @@ class Fault:
 
 
 class Replay:
-    """A journal that is played on an image. Behind `play` the machine stands before the first step that is impossible, or at the
-    end, and `item` and `units` say how far the run has come."""
+    """A journal that is played on an image. Behind `play` the machine stands before the first step that is impossible,
+    or at the end, and `item` and `units` say how far the run has come."""
 
     def __init__(self, image, journal):
         self.journal, self.image = journal, image
@@ -45,7 +46,8 @@ class Replay:
             if m.waited is not None:
                 return "a trap is pending, so the word is executed as a Wait, or the trap is reported"
             if m.overflows() != (kind == journals.TRIGGER):
-                return "the word doesn't overflow" if kind == journals.TRIGGER else "the word overflows, which is a Trigger"
+                return ("the word doesn't overflow" if kind == journals.TRIGGER
+                        else "the word overflows, which is a Trigger")
             return None
         if m.waited is None:
             return "no trap is pending"
@@ -78,11 +80,13 @@ class Replay:
         """The first fault behind all items."""
         m, put, wanted = self.machine, bytes(self.machine.put), self.journal.put
         if put != wanted:
-            at = next((n for n, (one, other) in enumerate(zip(put, wanted)) if one != other), min(len(put), len(wanted)))
+            at = next((n for n, (one, other) in enumerate(zip(put, wanted)) if one != other),
+                      min(len(put), len(wanted)))
             return Fault(OUTPUT, at, output_text(put, wanted, at))
         end = m.end or ("none", 0, 0)
         if end != self.journal.ending:
-            return Fault(END, 0, f"the run ends by `{end_text(end)}`, and the journal by `{end_text(self.journal.ending)}`")
+            return Fault(END, 0,
+                         f"the run ends by `{end_text(end)}`, and the journal by `{end_text(self.journal.ending)}`")
         if m.end is None and m.waited is not None:
             return Fault(END, 0, "the run doesn't end, and a trap is pending")
         left = len(m.given) - m.taken
@@ -92,7 +96,8 @@ class Replay:
         return f"run units {self.units} reports {self.reports}"
 
     def until(self, steps=None):
-        """The journal of the run up to here, which doesn't end: of the item at hand the steps that were made, if it is a Units."""
+        """The journal of the run up to here, which doesn't end: of the item at hand the steps that were made, if it is
+        a Units."""
         items = self.journal.items[:self.item]
         if steps:
             items = [*items, (journals.UNITS, steps)]

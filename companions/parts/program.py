@@ -10,12 +10,14 @@ from . import files
 BUILT, LOOK = "crates/alpha_tool/out/alpha_tool", ".look/alpha_tool"
 NO_IMAGE, CANT_READ = 4, 8
 BROKEN = re.compile(r"broken trigger ([0-9a-f]{16}) at ([0-9a-f]{16}) condition C([1-9])\n\Z")
-NONE = "no program is there, and a companion builds none: take bin/alpha of an archive, or among the sources make one, by " \
-    "`./look trial 1` in a minute, or with all proofs by `./alpha trial 1` in half an hour; --alpha PROGRAM and ALPHA say another one"
+NONE = ("no program is there, and a companion builds none: take bin/alpha of an archive, or among the sources make "
+        "one, by `./look trial 1` in a minute, or with all proofs by `./alpha trial 1` in half an hour; --alpha "
+        "PROGRAM and ALPHA say another one")
 
 
 def found(path=None):
-    """The path of the program: of that which the user names, else of the one beside the companions. Nothing is built."""
+    """The path of the program: of that which the user names, else of the one beside the companions. Nothing is
+    built."""
     if path is None:
         # The folder as it is named comes first, and then the one that a link to it leads to.
         tops = dict.fromkeys([files.TOP, os.path.dirname(os.path.dirname(os.path.dirname(os.path.realpath(__file__))))])
@@ -29,7 +31,8 @@ def found(path=None):
 
 
 def beside(top):
-    """That of an archive, of an installation in PREFIX/lib/bantamtinsel, or of a checkout, by the folder above the companions'."""
+    """That of an archive, of an installation in PREFIX/lib/bantamtinsel, or of a checkout, by the folder above the
+    companions'."""
     places = [os.path.join(top, "bin", "alpha")]
     if os.path.basename(os.path.dirname(top)) in ("lib", "share"):
         places.append(os.path.join(os.path.dirname(os.path.dirname(top)), "bin", "alpha"))
@@ -50,7 +53,8 @@ def is_program(path):
 def is_script(path):
     """Whether it is ./alpha or ./look of a checkout, which make their program where it is missing or old."""
     with files.open_file(path) as file:
-        return file.read(2) == b"#!" and os.path.exists(os.path.join(os.path.dirname(os.path.realpath(path)), "tools", "start.sh"))
+        return (file.read(2) == b"#!"
+                and os.path.exists(os.path.join(os.path.dirname(os.path.realpath(path)), "tools", "start.sh")))
 
 
 def of_script(path):
@@ -71,7 +75,8 @@ def told(program, script):
         said = subprocess.run([script, "--version"], stdin=subprocess.DEVNULL, capture_output=True, check=False).stdout
         kinds += ["was made of other sources than are here now"] if b"the sources are others" in said else []
     if kinds:
-        print(f"{os.path.basename(sys.argv[0])}: asks {os.path.relpath(program)}, which {' and '.join(kinds)}", file=sys.stderr, flush=True)
+        print(f"{os.path.basename(sys.argv[0])}: asks {os.path.relpath(program)}, which {' and '.join(kinds)}",
+              file=sys.stderr, flush=True)
     return program
 
 
@@ -90,7 +95,8 @@ class Program:
         return done.returncode, done.stdout, done.stderr.decode("utf-8", "replace")
 
     def verdict(self, path):
-        """None where the image is accepted, else (address of the trigger, address of the place, number of the condition)."""
+        """None where the image is accepted, else (address of the trigger, address of the place, number of the
+        condition)."""
         status, out, notes = self.call("check", path)
         if status == 0 and out == b"accepted\n":
             return None

@@ -10,13 +10,15 @@ REST = "what is in no function"
 
 
 def names_of(statements, text_of_map=None):
-    """The name of the function of each statement: by the map where there is one, else by what `.ent` and `.type` say of labels."""
+    """The name of the function of each statement: by the map where there is one, else by what `.ent` and `.type` say of
+    labels."""
     return by_map(statements, *text_of_map) if text_of_map else by_labels(statements)
 
 
 def by_labels(statements):
     names = {statement.operands[0] for statement in statements if statement.operands and
-             (statement.name == ".ent" or statement.name == ".type" and statement.operands[-1].strip("@%\"") == "function")}
+             (statement.name == ".ent"
+              or statement.name == ".type" and statement.operands[-1].strip("@%\"") == "function")}
     current, told = REST, []
     for statement in statements:
         for label in statement.labels:

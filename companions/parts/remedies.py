@@ -27,8 +27,10 @@ def help_of(condition):
 def remedy(condition, is_own):
     """What to do, as that page says it. Where a /V word is broken at its own place no barrier helps."""
     if is_own and condition == 2:
-        text = next(block.text for block in pages.section(PAGE, "The repair that always works").blocks if isinstance(block, pages.Text))
+        text = next(block.text for block in pages.section(PAGE, "The repair that always works").blocks
+                    if isinstance(block, pages.Text))
         return pages.plain(text, PAGE).rstrip(":") + "."
-    text = next(block.text for block in section(condition).blocks if isinstance(block, pages.Text) and block.text.startswith("Repair: "))
+    text = next(block.text for block in section(condition).blocks
+                if isinstance(block, pages.Text) and block.text.startswith("Repair: "))
     said = pages.plain(text, PAGE).removeprefix("Repair: ")
     return said[0].upper() + said[1:]

@@ -3,18 +3,18 @@ from collections import namedtuple
 
 from . import flow, gas, instructions, liveness, sameness, steps, table
 
-# Registers that the calling standard lets a function spoil and that hold no arguments, in the order in which they are tried, and
-# those that are tried behind them.
+# Registers that the calling standard lets a function spoil and that hold no arguments, in the order in which they are
+# tried, and those that are tried behind them.
 SPARE = (28, 22, 23, 24, 25, 8, 7, 6, 5, 4, 3, 2, 1, 0, 21, 20, 19, 18, 17, 16)
 SLOT = 16
-# The change of a /V word: the lines that stand for it, and the register through which its result goes. `is_kept` says that the
-# register's value is kept in the stack meanwhile.
+# The change of a /V word: the lines that stand for it, and the register through which its result goes. `is_kept` says
+# that the register's value is kept in the stack meanwhile.
 Change = namedtuple("Change", "lines register is_kept")
 
 
 class Repair:
-    """The changes of a text's /V words: `changes` by place, `had` with the places that have a barrier, and `left` with the
-    reasons why others are as they were. `kind` says how the moves are written: for GNU as, or for `asm`."""
+    """The changes of a text's /V words: `changes` by place, `had` with the places that have a barrier, and `left` with
+    the reasons why others are as they were. `kind` says how the moves are written: for GNU as, or for `asm`."""
 
     def __init__(self, text, asked=None, is_aside=False):
         self.text, self.code, self.asked, self.is_aside = text, text.code, asked, is_aside
@@ -69,17 +69,20 @@ class Repair:
             return
         register = next(other for other in SPARE if not taken >> other & 1)
         lines = self.change_through(place, register).lines
-        self.changes[place] = Change([f"lda $30,-{SLOT}($30)", f"stq ${register},0($30)", *lines, f"ldq ${register},0($30)",
+        self.changes[place] = Change([f"lda $30,-{SLOT}($30)", f"stq ${register},0($30)", *lines,
+                                      f"ldq ${register},0($30)",
                                       f"lda $30,{SLOT}($30)"], register, True)
 
     def free_at(self, place):
-        """Of the registers that are tried those that a /V word doesn't name and nothing behind it reads before they are set."""
+        """Of the registers that are tried those that a /V word doesn't name and nothing behind it reads before they are
+        set."""
         step, tried = self.code.steps[place], SPARE if self.asked is None else (self.asked,)
         taken = step.insn.uses | table.bit(step.word & 31) | self.live.behind[place]
         return [register for register in tried if not taken >> register & 1]
 
     def change_through(self, place, register):
-        """The change by a barrier, with a register for the result, or None where that goes to its destination at once."""
+        """The change by a barrier, with a register for the result, or None where that goes to its destination at
+        once."""
         destination = self.code.steps[place].word & 31
         move = [] if register is None or destination == 31 else [self.move(register, destination)]
         return Change([self.spelled(place, register), "trapb", *move], register, False)
@@ -92,7 +95,8 @@ class Repair:
         if self.asked is not None:
             return f"${self.asked} may still be read there, or is one of its own"
         if place in self.locked:
-            return "no register is free, and it lies between a locked load and its conditional store, where no other access may be"
+            return ("no register is free, and it lies between a locked load and its conditional store, where no other "
+                    "access may be")
         if taken >> steps.SP & 1:
             return "no register is free, and it names $30"
         why = sameness.why_no_stack(self.returns, place)

@@ -1,4 +1,5 @@
-"""Broken places for other programs: as JSON, one object a place, and as SARIF 2.1.0, which code-scanning services show."""
+"""Broken places for other programs: as JSON, one object a place, and as SARIF 2.1.0, which code-scanning services
+show."""
 import json
 import os
 import urllib.parse
@@ -20,7 +21,8 @@ def row_of(subject, trigger, place, condition):
     return {"file": at.file, "line": at.line or None, "column": at.column or None, "place": f"{place:016x}",
             "instruction": subject.line(place), "function": subject.known.near(place), "trigger": f"{trigger:016x}",
             "trigger_file": of.file, "trigger_line": of.line or None, "trigger_instruction": subject.line(trigger),
-            "condition": f"C{condition}", "what": shadows.NAMES[condition], "remedy": remedies.remedy(condition, place == trigger)}
+            "condition": f"C{condition}", "what": shadows.NAMES[condition],
+            "remedy": remedies.remedy(condition, place == trigger)}
 
 
 def spots(subject, address):
@@ -31,10 +33,12 @@ def spots(subject, address):
 
 
 def as_sarif(subject, found):
-    """One run of a tool that has a rule for each condition. A result is a broken place; its trigger is a related location."""
+    """One run of a tool that has a rule for each condition. A result is a broken place; its trigger is a related
+    location."""
     rules = [rule_of(condition) for condition in sorted(shadows.NAMES)]
     results = [result_of(subject, *one) for one in found]
-    run = {"tool": {"driver": {"name": "allbroken", "rules": rules}}, "columnKind": "unicodeCodePoints", "results": results}
+    run = {"tool": {"driver": {"name": "allbroken", "rules": rules}}, "columnKind": "unicodeCodePoints",
+           "results": results}
     return json.dumps({"$schema": SCHEMA, "version": "2.1.0", "runs": [run]}, indent=1) + "\n"
 
 
@@ -54,7 +58,8 @@ def result_of(subject, trigger, place, condition):
     return {"ruleId": f"C{condition}", "ruleIndex": condition - 1, "level": "error",
             "message": {"text": said + remedies.remedy(condition, place == trigger)},
             "locations": [location(subject, place, first)],
-            "relatedLocations": [one | {"id": n, "message": {"text": text}} for n, (text, one) in enumerate(related, 1)]}
+            "relatedLocations": [one | {"id": n, "message": {"text": text}}
+                                 for n, (text, one) in enumerate(related, 1)]}
 
 
 def location(subject, address, at):
@@ -62,7 +67,8 @@ def location(subject, address, at):
     region = {"startLine": at.line or 1, "startColumn": at.column or 1}
     found = {"artifactLocation": {"uri": uri(at.file)}, "region": region}
     if not at.line:
-        found["address"] = {"absoluteAddress": address, "fullyQualifiedName": subject.known.near(address) or f"{address:#x}"}
+        found["address"] = {"absoluteAddress": address,
+                            "fullyQualifiedName": subject.known.near(address) or f"{address:#x}"}
     return {"physicalLocation": found}
 
 

@@ -1,10 +1,10 @@
 """Whether repaired code does what the old code did, shown word by word.
 
-A map says for places of the old code the places of the new code that stand for them. From each such pair on both codes are
-run as terms up to the next such places, from registers that are the same where the old code may read them and different
-elsewhere. Then the places must be images of each other, the events the same, and so must the registers be that may be read
-from there on. Where this holds for every pair, and at the places where others come in, it holds for whole runs, by
-induction over their windows.
+A map says for places of the old code the places of the new code that stand for them. From each such pair on both codes
+are run as terms up to the next such places, from registers that are the same where the old code may read them and
+different elsewhere. Then the places must be images of each other, the events the same, and so must the registers be
+that may be read from there on. Where this holds for every pair, and at the places where others come in, it holds for
+whole runs, by induction over their windows.
 """
 from . import flow, liveness, steps, symbolic
 
@@ -15,16 +15,17 @@ CODE, ADDED = "code", "added"
 
 
 class Outcome:
-    """Where a window ends: `kind` is at, if, jump, leaves or ends; `where` says it, `parts` are the outcomes behind an `if`."""
+    """Where a window ends: `kind` is at, if, jump, leaves or ends; `where` says it, `parts` are the outcomes behind an
+    `if`."""
 
     def __init__(self, kind, where, state, place, parts=()):
         self.kind, self.where, self.state, self.place, self.parts = kind, where, state, place, parts
 
 
 class Walk:
-    """Runs a code as terms from a place on up to the next stop. `name_of` gives a place the name that both codes have, and
-    `images` the place of this code for one of the old code. Words of a repair's own may be called, and go back by an
-    address that a word of the window has left."""
+    """Runs a code as terms from a place on up to the next stop. `name_of` gives a place the name that both codes have,
+    and `images` the place of this code for one of the old code. Words of a repair's own may be called, and go back by
+    an address that a word of the window has left."""
 
     def __init__(self, code, stops, name_of, images):
         self.code, self.stops, self.name_of, self.images, self.fuel = code, stops, name_of, images, MOST_WORDS
@@ -89,7 +90,8 @@ class Walk:
 
 
 class Same:
-    """Shows of two codes, by a map of places, that they do the same. `told` names a place of the old code for a refusal."""
+    """Shows of two codes, by a map of places, that they do the same. `told` names a place of the old code for a
+    refusal."""
 
     def __init__(self, old, new, pairs, told, live=None):
         self.old, self.new, self.pairs, self.told = old, new, pairs, told
@@ -128,7 +130,8 @@ class Same:
     def must_have(self):
         """The places of which the map must say an image: where others come in, and words that nothing reaches."""
         old = self.old
-        return old.roots | old.functions | old.outside | old.entries | {place for places in old.tables.values() for place in places} | \
+        return old.roots | old.functions | old.outside | old.entries | {place for places in old.tables.values()
+                                                                        for place in places} | \
             set(range(len(old.steps))) - old.reached
 
     def look_at(self, place, image):
@@ -140,7 +143,8 @@ class Same:
         shared = self.live.before[place] | steps.bits(steps.SP)
         one = symbolic.State(("register" if shared >> register & 1 else "old", register) for register in range(31))
         old = self.walks[0].start(place, one)
-        other = symbolic.State((("register" if shared >> register & 1 else "new", register) for register in range(31)), ("register", steps.SP))
+        other = symbolic.State((("register" if shared >> register & 1 else "new", register) for register in range(31)),
+                               ("register", steps.SP))
         new = self.walks[1].start(image, other)
         self.compare(place, old, new)
         self.executed += 1
@@ -148,7 +152,8 @@ class Same:
     def is_equal(self, place, image):
         """Whether both have the same word, which goes on to images of the same places."""
         one, other = self.old.steps[place], self.new.steps[image]
-        if (one.insn.name, one.symbol, one.insn.uses, one.insn.sets) != (other.insn.name, other.symbol, other.insn.uses, other.insn.sets):
+        if ((one.insn.name, one.symbol, one.insn.uses, one.insn.sets)
+            != (other.insn.name, other.symbol, other.insn.uses, other.insn.sets)):
             return False
         target, branched = self.old.targets[place], self.new.targets[image]
         if (target is None) != (branched is None) or target is not None and self.pairs.get(target) != branched:
@@ -172,7 +177,8 @@ class Same:
                 self.compare(start, one, other)
             return
         self.compare_events(old.state, new.state)
-        wanted = {"at": lambda: self.live.before[old.where[1]], "ends": lambda: 0}.get(old.kind, lambda: self.live.leaving(old.place))()
+        wanted = {"at": lambda: self.live.before[old.where[1]],
+                  "ends": lambda: 0}.get(old.kind, lambda: self.live.leaving(old.place))()
         wanted = steps.ALL if old.kind == "leaves" else wanted
         for register in range(31):
             is_wanted = (wanted | steps.bits(steps.SP)) >> register & 1
@@ -181,32 +187,38 @@ class Same:
         if new.state.own:
             self.look_at_stack(start, old.state)
         if start in self.locked and (new.state.turns > old.state.turns or new.state.own):
-            raise symbolic.Unclear("lies between a locked load and its conditional store, where the repair branches or makes accesses")
+            raise symbolic.Unclear("lies between a locked load and its conditional store, where the repair branches or "
+                                   "makes accesses")
 
     @staticmethod
     def compare_events(old, new):
         one, other = old.events, symbolic.without_more_barriers(old.events, new.events)
         for event, repaired in zip(one, other):
             if event != repaired:
-                raise symbolic.Unclear(f"does {event[0]}, and the repair another {repaired[0]}" if event[0] == repaired[0] else
+                raise symbolic.Unclear(f"does {event[0]}, and the repair another {repaired[0]}"
+                                       if event[0] == repaired[0] else
                                        f"does {event[0]}, and the repair {repaired[0]}")
         if len(one) != len(other):
-            raise symbolic.Unclear(f"does {one[len(other)][0]}, which the repair leaves out" if len(one) > len(other) else
+            raise symbolic.Unclear(f"does {one[len(other)][0]}, which the repair leaves out" if len(one) > len(other)
+                                   else
                                    f"doesn't do {other[len(one)][0]}, which the repair does")
 
     def look_at_stack(self, place, state):
-        """A repair that keeps something in the stack needs a stack pointer that is one, and nothing of the program below it."""
+        """A repair that keeps something in the stack needs a stack pointer that is one, and nothing of the program
+        below it."""
         if state.registers[steps.SP] != ("register", steps.SP):
             raise symbolic.Unclear("sets $30, and the repair keeps something in the stack")
         why = why_no_stack(self.returns, place)
         if why is not None:
-            raise symbolic.Unclear(f"the repair keeps something in the stack, and {why}" % tuple(self.told(other) for other in
+            raise symbolic.Unclear(f"the repair keeps something in the stack, and {why}"
+                                   % tuple(self.told(other) for other in
                                    sorted(self.returns.below)[:why.count("%s")]))
         self.spilled.append(place)
 
 
 def why_no_stack(returns, place):
-    """Why nothing may be kept in the stack at a place, or None. `%s` stands for a place that accesses memory below it."""
+    """Why nothing may be kept in the stack at a place, or None. `%s` stands for a place that accesses memory below
+    it."""
     if returns.below:
         return "%s has an access below $30"
     if not returns.is_stack or returns.states.get(place, {}).get(steps.SP, ("", 0))[0] != "stack":

@@ -1,6 +1,7 @@
 """Trap shadows and their broken places, by the nine conditions of docs/trap-shadows.md.
 
-This is a model beside the product, to draw by. Whoever draws holds its least broken place against the program's verdict.
+This is a model beside the product, to draw by. Whoever draws holds its least broken place against the program's
+verdict.
 """
 from . import table
 
@@ -25,8 +26,8 @@ class Shadow:
     """The shadow of a trigger: its first place, the place that ends it, why it ends, and its broken places.
 
     `end` is the place of the barrier, of the branch or jump, one past the code, or that of the word 1,025 behind the
-    trigger; what comes behind that isn't looked at. `broken` has pairs of place and condition, the least first; where it
-    has `most` of them the walk ends there too. `sources` are the places of the words that use a register before the
+    trigger; what comes behind that isn't looked at. `broken` has pairs of place and condition, the least first; where
+    it has `most` of them the walk ends there too. `sources` are the places of the words that use a register before the
     shadow sets it, which may not be lost.
     """
 

@@ -1,12 +1,13 @@
-"""The instructions of a text or of an image one by one, each as a word of the table, for whoever follows what code does."""
+"""The instructions of a text or of an image one by one, each as a word of the table, for whoever follows what code
+does."""
 import functools
 from collections import namedtuple
 
 from . import gas, instructions, table
 
-# An instruction. `word` is None where the statement is none of the table, as a macro of GNU as or one of floating point.
-# `symbol` is what stands in the place of its displacement, or such a statement's whole text; `label` is where it branches
-# to. `spoils` are the registers that it may change, which for a known word are those that it sets.
+# An instruction. `word` is None where the statement is none of the table, as a macro of GNU as or one of floating
+# point. `symbol` is what stands in the place of its displacement, or such a statement's whole text; `label` is where it
+# branches to. `spoils` are the registers that it may change, which for a known word are those that it sets.
 Step = namedtuple("Step", "word insn symbol label spoils")
 
 ALL = (1 << 31) - 1
@@ -53,7 +54,8 @@ def of_statement(statement):
     try:
         return found or macro(name, statement)
     except (instructions.Untold, IndexError):
-        return Step(None, table.Insn(name, "unknown", ALL, 0, None), f"{statement.name} {','.join(statement.operands)}", None, ALL)
+        return Step(None, table.Insn(name, "unknown", ALL, 0, None), f"{statement.name} {','.join(statement.operands)}",
+                    None, ALL)
 
 
 @functools.lru_cache(maxsize=1 << 14)
@@ -90,8 +92,10 @@ def operate(name, operands):
         return None
     opcode, function = FUNCTIONS[name]
     second = operands[1]
-    middle = instructions.register(second) << 16 if second.startswith("$") else instructions.number(second, 0, 255) << 13 | LITERAL
-    return of_word(opcode << 26 | instructions.register(operands[0]) << 21 | middle | function << 5 | instructions.register(operands[2]))
+    middle = (instructions.register(second) << 16 if second.startswith("$")
+              else instructions.number(second, 0, 255) << 13 | LITERAL)
+    return of_word(opcode << 26 | instructions.register(operands[0]) << 21 | middle | function << 5
+                   | instructions.register(operands[2]))
 
 
 def memory(name, operands, relocation):
@@ -137,7 +141,8 @@ def macro(name, statement):
         _, base = instructions.based(operands[1])
         return unknown(name, table.bit(PV if base is None else base), table.bit(GP), text)
     if name in instructions.DIVISIONS:
-        return unknown(name, bits(24, 25, GP, SP), bits(BY_DIVISION), text)._replace(spoils=bits(BY_DIVISION, 24, 25, PV, AT))
+        return unknown(name, bits(24, 25, GP, SP), bits(BY_DIVISION),
+                       text)._replace(spoils=bits(BY_DIVISION, 24, 25, PV, AT))
     if name == "jsr" and operands:
         return unknown("jsr", bits(GP), bits(PV, RA), text)._replace(label=operands[-1])
     if name in table.MEMORY.values() and named and not name.startswith("st"):

@@ -1,4 +1,5 @@
-"""The words that run before a program under Linux: they make the registers of the product's start, and may set a handler.
+"""The words that run before a program under Linux: they make the registers of the product's start, and may set a
+handler.
 
 Numbers of calls and of signals are those of Linux for alpha, and so are the layouts of its `sigaction`, `stack_t` and
 `sigcontext`.
@@ -55,8 +56,8 @@ class Words:
 
 
 def stub(base, entry, stack=None):
-    """The bytes to stand at a base, and the address in them where a program begins. With a stack for it, as (its base, its
-    size), they set a handler of SIGFPE."""
+    """The bytes to stand at a base, and the address in them where a program begins. With a stack for it, as (its base,
+    its size), they set a handler of SIGFPE."""
     words = Words(base)
     if stack is None:
         start = words.here()

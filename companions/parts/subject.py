@@ -1,4 +1,5 @@
-"""What is judged: an image, a module, or a source, with its words, the program's verdict, and where each word comes from."""
+"""What is judged: an image, a module, or a source, with its words, the program's verdict, and where each word comes
+from."""
 import re
 
 from . import broken, files, fitting, image, module, places, program, shadows, shown, table
@@ -8,7 +9,8 @@ OVERFLOW = re.compile(r"\b((?:add|sub|mul|neg)[lq])/?v(?=[ \t])")
 
 
 class Subject:
-    """Of a file: `whole` has its words as an image, `code` their instructions, `lines` a line for each word, `verdict` the program's."""
+    """Of a file: `whole` has its words as an image, `code` their instructions, `lines` a line for each word, `verdict`
+    the program's."""
 
     def __init__(self, path, whole, verdict, lines, known):
         self.path, self.whole, self.verdict, self.lines, self.known = path, whole, verdict, lines, known
@@ -71,8 +73,9 @@ def of_module(asked, path, made):
 
 
 def of_module_source(asked, path, known, source):
-    """A source that `module` takes, or refuses for a broken place. Its words are those of a copy without `/V`, in which no shadow
-    opens, with `/V` put back. The verdict must be that of `module`, which asks for nothing that a link changes."""
+    """A source that `module` takes, or refuses for a broken place. Its words are those of a copy without `/V`, in which
+    no shadow opens, with `/V` put back. The verdict must be that of `module`, which asks for nothing that a link
+    changes."""
     triggers = {source.lines[address] - 1: address for address in source.lines if source.is_trigger(address)}
     lines = [OVERFLOW.sub(r"\1", line, 1) if n in triggers else line for n, line in enumerate(source.text)]
     with program.Scratch() as scratch:
@@ -89,7 +92,8 @@ def of_module_source(asked, path, known, source):
     match = program.BROKEN.search(notes)
     said = (int(match[1], 16), int(match[2], 16), int(match[3])) if match else None
     if status not in (0, 1) or said != found.verdict:
-        raise files.Refused(f"{path}: `module` answers status {status}: {notes.strip() or 'no line'}, and `check` of its words otherwise")
+        raise files.Refused(f"{path}: `module` answers status {status}: {notes.strip() or 'no line'}, and `check` of "
+                            f"its words otherwise")
     # What a link puts in stands in the source alone.
     for one in made.relocations:
         if one.kind != module.QUAD:

@@ -1,8 +1,8 @@
 """What some words do, as terms over what registers and memory held before them.
 
-Terms are tuples: ("number", N), ("register", N) as it was, ("plus", term, N), and (name, ..) for all else, of which only what is
-written alike counts as equal. What others can see of a run is a row of events, in order: overflows, accesses, orders, system
-calls, and barriers.
+Terms are tuples: ("number", N), ("register", N) as it was, ("plus", term, N), and (name, ..) for all else, of which
+only what is written alike counts as equal. What others can see of a run is a row of events, in order: overflows,
+accesses, orders, system calls, and barriers.
 """
 from . import steps, table
 
@@ -35,9 +35,9 @@ def offset_of(term, base):
 
 
 class State:
-    """Registers, memory and events. With `stack`, the stack pointer as it was, what is stored below it, and above the stack
-    pointer of the moment, is a slot of the repair's own and no event. `turns` and `own` count branches that are taken and
-    accesses to such slots."""
+    """Registers, memory and events. With `stack`, the stack pointer as it was, what is stored below it, and above the
+    stack pointer of the moment, is a slot of the repair's own and no event. `turns` and `own` count branches that are
+    taken and accesses to such slots."""
 
     def __init__(self, registers, stack=None):
         self.registers, self.stack = list(registers), stack
@@ -139,7 +139,8 @@ class State:
         """A PALcode call or an order of accesses: it may read what it takes and all memory, and change memory."""
         reads = steps.PAL_READS.get(step.insn.name, 0)
         number = sum(event[0] != "barrier" for event in self.events)
-        event = (step.insn.name, number, tuple(self.registers[register] for register in range(31) if reads >> register & 1), self.memory)
+        event = (step.insn.name, number,
+                 tuple(self.registers[register] for register in range(31) if reads >> register & 1), self.memory)
         self.events.append(event)
         self.memory = event
         for register in range(31):

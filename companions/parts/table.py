@@ -1,12 +1,13 @@
 """The instruction table as the companions need it: which words are instructions, and what matters of one to a shadow.
 
-It repeats the table of the product (crates/alpha_table), by the Architecture Handbook's numbers. The test holds it against
-words that GNU as made and against the program itself.
+It repeats the table of the product (crates/alpha_table), by the Architecture Handbook's numbers. The test holds it
+against words that GNU as made and against the program itself.
 """
 from collections import namedtuple
 
 MEMORY = {0x08: "lda", 0x09: "ldah", 0x0A: "ldbu", 0x0B: "ldq_u", 0x0C: "ldwu", 0x0D: "stw", 0x0E: "stb", 0x0F: "stq_u",
-          0x28: "ldl", 0x29: "ldq", 0x2A: "ldl_l", 0x2B: "ldq_l", 0x2C: "stl", 0x2D: "stq", 0x2E: "stl_c", 0x2F: "stq_c"}
+          0x28: "ldl", 0x29: "ldq", 0x2A: "ldl_l", 0x2B: "ldq_l", 0x2C: "stl", 0x2D: "stq", 0x2E: "stl_c",
+          0x2F: "stq_c"}
 BRANCH = {0x30: "br", 0x34: "bsr", 0x38: "blbc", 0x39: "beq", 0x3A: "blt", 0x3B: "ble", 0x3C: "blbs", 0x3D: "bne",
           0x3E: "bge", 0x3F: "bgt"}
 JUMP = ("jmp", "jsr", "ret", "jsr_coroutine")
@@ -121,7 +122,8 @@ def reason(word):
         return f"floating point, opcode {opcode:02X}"
     if opcode == 0x1C:
         function = word >> 5 & 0x7F
-        return "floating point, opcode 1C" if function in (0x70, 0x78) else f"multimedia or unknown, function {function:02X}"
+        return ("floating point, opcode 1C" if function in (0x70, 0x78)
+                else f"multimedia or unknown, function {function:02X}")
     if opcode == 0x18:
         other = {0xC000: "rpcc", 0xE000: "rc", 0xE800: "ecb", 0xF000: "rs", 0xF800: "wh64", 0xFC00: "wh64en"}
         return other.get(word & 0xFFFF, f"function {word & 0xFFFF:04X} of opcode 18, or other register fields")

@@ -14,13 +14,15 @@ Values = namedtuple("Values", "size items note")
 Bytes = namedtuple("Bytes", "content note")
 Zeros = namedtuple("Zeros", "count note")
 
-MEANINGLESS = set(""".addrsig .arch .cfi_sections .eflag .end .ent .aent .fmask .frame .globl .global .hidden .ident .internal .loc_mark_labels
-.mask .prologue .protected .size .type .usepv .weak .extern .version .line .local .file .loc .bend .bgnb""".split())
+MEANINGLESS = set(""".addrsig .arch .cfi_sections .eflag .end .ent .aent .fmask .frame .globl .global .hidden .ident
+.internal .loc_mark_labels .mask .prologue .protected .size .type .usepv .weak .extern .version .line .local .file
+.loc .bend .bgnb""".split())
 SETTINGS = {"noreorder", "reorder", "volatile", "novolatile", "noat", "at", "nomacro", "macro", "move", "nomove"}
 SIZES = {".byte": 1, ".word": 2, ".short": 2, ".hword": 2, ".2byte": 2, ".uword": 2, ".long": 4, ".int": 4, ".4byte": 4,
          ".ulong": 4, ".quad": 8, ".8byte": 8, ".uquad": 8}
 ALIGNED_BY_ITSELF = {".word", ".short", ".hword", ".long", ".int", ".quad"}
-# How many names, and how many bytes of a source, are made of a file at most. `asm` takes no longer source, and no more words.
+# How many names, and how many bytes of a source, are made of a file at most. `asm` takes no longer source, and no more
+# words.
 MOST_NAMES, MOST_BYTES, LINES_BETWEEN_LOOKS = 524_288, files.MOST_SOURCE, 1_000
 STARTERS = (".init", ".fini", ".ctors", ".dtors", ".preinit_array")
 
@@ -33,7 +35,8 @@ class Section:
 
 
 class Unit:
-    """What a file says. `synonyms` are names set to be other names, `common` the size and alignment of shared symbols."""
+    """What a file says. `synonyms` are names set to be other names, `common` the size and alignment of shared
+    symbols."""
 
     def __init__(self, path, text, faults, is_module=False):
         self.path, self.name, self.faults = path, os.path.basename(path), faults
@@ -58,7 +61,8 @@ class Unit:
 
     def look_at_sizes(self):
         """Refuses a file that is too large while what is known of it still is small."""
-        names = sum(map(len, (self.globals, self.labels, self.synonyms, self.common, self.sections, self.sources, self.functions, self.locals)))
+        names = sum(map(len, (self.globals, self.labels, self.synonyms, self.common, self.sections, self.sources,
+                              self.functions, self.locals)))
         if names > MOST_NAMES:
             raise files.Refused(f"{self.path}: has more than {MOST_NAMES:,} names")
         if self.bytes > MOST_BYTES:
@@ -103,7 +107,8 @@ class Unit:
             return
         if self.section.kind != CODE:
             raise instructions.Untold(f"an instruction in the section {self.section.name}")
-        operands = [re.sub(r"\b([0-9]+[fb])\b", lambda match: self.symbol(match[1]), text) for text in statement.operands]
+        operands = [re.sub(r"\b([0-9]+[fb])\b", lambda match: self.symbol(match[1]), text)
+                    for text in statement.operands]
         note = self.note(statement.line)
         for text in self.translator.lines(statement._replace(operands=operands)):
             self.section.items.append(Line(text, note))
@@ -185,7 +190,8 @@ class Unit:
     def add(self, item):
         """Adds data, and keeps count of its bytes."""
         section = self.section
-        size = {Values: lambda: item.size * len(item.items), Bytes: lambda: len(item.content), Zeros: lambda: item.count}
+        size = {Values: lambda: item.size * len(item.items), Bytes: lambda: len(item.content),
+                Zeros: lambda: item.count}
         if section.kind == CODE:
             raise instructions.Untold("data among instructions")
         section.size += size[type(item)]()
@@ -205,8 +211,8 @@ class Unit:
         self.pad(value, note, behind_label=True)
 
     def pad(self, power, note, behind_label):
-        """Aligns the data in hand; the code need not be aligned. GNU as moves the last label before a value behind the padding
-        of this value, where it stands directly before it."""
+        """Aligns the data in hand; the code need not be aligned. GNU as moves the last label before a value behind the
+        padding of this value, where it stands directly before it."""
         section = self.section
         if section.kind == CODE or power == 0:
             return
@@ -272,8 +278,8 @@ class Unit:
 
 def kind_of(name, flags, content):
     """What a section is, by its name and, where they are said, its flags."""
-    if flags is not None and "a" not in flags or flags is None and name.startswith((".debug", ".note", ".comment", ".stab",
-                                                                                  ".gnu.", ".mdebug")):
+    if flags is not None and "a" not in flags or flags is None and name.startswith((".debug", ".note", ".comment",
+                                                                                    ".stab", ".gnu.", ".mdebug")):
         return DROPPED
     if name.startswith(STARTERS):
         raise instructions.Untold(f"the section {name}: nothing here runs what it starts")

@@ -6,7 +6,8 @@ HEADER, PROGRAM, SECTION, PAGE = 64, 56, 64, 8_192
 READ, WRITE, EXECUTE = 4, 2, 1
 PROGBITS, SYMTAB, STRTAB, NOBITS = 1, 2, 3, 8
 LOAD, STACK_FLAGS = 1, 0x6474E551
-# A part of memory: the name of its section, its flags, its address, its bytes in the file, and how many it has in memory.
+# A part of memory: the name of its section, its flags, its address, its bytes in the file, and how many it has in
+# memory.
 Part = namedtuple("Part", "name flags address content size")
 
 
@@ -24,20 +25,24 @@ class Written:
         self.add_symbols(symbols)
 
     def add(self, part):
-        """Adds a part. Its place in a page of the file is that in a page of memory, and nothing else is in its pages."""
+        """Adds a part. Its place in a page of the file is that in a page of memory, and nothing else is in its
+        pages."""
         self.content += bytes(-len(self.content) % PAGE + part.address % PAGE)
         at, held = len(self.content), len(part.content)
-        self.programs.append(struct.pack("<IIQQQQQQ", LOAD, part.flags, at, part.address, part.address, held, part.size, PAGE))
+        self.programs.append(struct.pack("<IIQQQQQQ", LOAD, part.flags, at, part.address, part.address, held, part.size,
+                                         PAGE))
         self.content += part.content
         flags = 2 | (part.flags & WRITE) >> 1 | (part.flags & EXECUTE) << 2
         if held:
             self.section(part.name, PROGBITS, at, held, flags, part.address)
         if part.size > held:
-            self.section(part.name + (".zero" if held else ""), NOBITS, at, part.size - held, flags, part.address + held)
+            self.section(part.name + (".zero" if held else ""), NOBITS, at, part.size - held, flags,
+                         part.address + held)
         self.content += bytes(-len(self.content) % PAGE)
 
     def section(self, name, kind, at, size, flags=0, address=0, link=0, first=0, entries=0):
-        self.sections.append(struct.pack("<IIQQQQIIQQ", len(self.names), kind, flags, address, at, size, link, first, 8, entries))
+        self.sections.append(struct.pack("<IIQQQQIIQQ", len(self.names), kind, flags, address, at, size, link, first, 8,
+                                         entries))
         self.names += name.encode("utf-8", "replace") + b"\0"
 
     def add_symbols(self, symbols):
@@ -48,7 +53,8 @@ class Written:
             found = self.section_of(address)
             if found:
                 number, is_code = found
-                rows.append(struct.pack("<IBBHQQ", len(texts), 1 << 4 | (2 if is_code else 1), 0, number, address, size))
+                rows.append(struct.pack("<IBBHQQ", len(texts), 1 << 4 | (2 if is_code else 1), 0, number, address,
+                                        size))
                 texts += name.encode("utf-8", "replace") + b"\0"
         if len(rows) > 1:
             count = len(self.sections)

@@ -7,7 +7,8 @@ import subprocess
 from parts import elf, image, program
 from .helpers import ASKED, TOP, Lacking, companion, data, needs_program, read, want, write, write_image
 
-EXAMPLES = ("factorial", "lost", "dot", "segments", "locked", "results", "late", "hello", "cat", "sum", "accepted", "dot-repaired")
+EXAMPLES = ("factorial", "lost", "dot", "segments", "locked", "results", "late", "hello", "cat", "sum", "accepted",
+            "dot-repaired")
 # The words that run first; the test puts those for the entry.
 BEGIN = """
 {entry}
@@ -76,9 +77,11 @@ def test_an_image_is_an_elf_file_with_its_parts(folder):
     companion("image2elf", "--map", symbols, made, out)
     whole, found = image.read_image(made), sections(out)
     segment, = whole.segments
-    want((found[".text"].address, found[".text"].content), (0x12000, struct.pack(f"<{len(whole.words)}I", *whole.words)), "code")
+    want((found[".text"].address, found[".text"].content),
+         (0x12000, struct.pack(f"<{len(whole.words)}I", *whole.words)), "code")
     want((found[".data"].address, found[".data"].content), (segment.base, segment.data), "data")
-    want((found[".data.zero"].address, found[".data.zero"].size), (segment.base + len(segment.data), segment.zeroed), "zeroed bytes")
+    want((found[".data.zero"].address, found[".data.zero"].size), (segment.base + len(segment.data), segment.zeroed),
+         "zeroed bytes")
     want((found[".stack"].address, found[".stack"].size), ((1 << 30) - 65_536, 65_536), "stack")
     # The entry of sort.elf is 0x123c0: 65536 + 0x23c0.
     entry = "        ldah $27,1($31)\n        lda $27,9152($27)"
@@ -100,7 +103,8 @@ def test_the_words_of_the_handler_are_those_of_the_text(folder):
     action = 48 + 4 * len(handled)
     entry = SET.format(action=action) + "        ldah $27,1($31)\n        lda $27,9152($27)"
     begun = assembled_words(asked, folder, BEGIN.format(entry=entry, clear=CLEAR))
-    # The stack of the handler, the default action, the words that return and handle, and the action: flag 1 is ON_STACK.
+    # The stack of the handler, the default action, the words that return and handle, and the action: flag 1 is
+    # ON_STACK.
     wanted = struct.pack("<6Q", 0x50010000, 0, 0x8000, 0, 0, 0) + struct.pack(f"<{len(handled)}I", *handled)
     wanted += struct.pack("<3Q", 0x50000000 + 48 + 12, 1, 0) + struct.pack(f"<{len(begun)}I", *begun)
     want(start, wanted, "words")
@@ -143,13 +147,17 @@ ENDS = [
     ("s: bugchk\n", ["--handler"], -5),
     ("s: ldq $1,0($31)\n", ["--handler"], -11),
     # An overflow whose program uses $30 for a number, and one with a stack of 16 bytes.
-    (".stack 16\ns: lda $30,-1($31)\n srl $30,1,$30\n addq/v $30,1,$16\n trapb\n srl $16,60,$16\n lda $0,1($31)\n callsys", ["--handler"], 8),
+    (".stack 16\ns: lda $30,-1($31)\n srl $30,1,$30\n addq/v $30,1,$16\n trapb\n srl $16,60,$16\n lda $0,1($31)\n "
+     "callsys", ["--handler"], 8),
     # All that isn't set is 0 at the start, and $27 is the entry: 0x10000.
-    ("s: bis $0,$1,$2\n bis $2,$15,$2\n bis $2,$26,$2\n bis $2,$29,$2\n srl $27,16,$16\n addq $16,$2,$16\n lda $0,1($31)\n callsys", [], 1),
+    ("s: bis $0,$1,$2\n bis $2,$15,$2\n bis $2,$26,$2\n bis $2,$29,$2\n srl $27,16,$16\n addq $16,$2,$16\n lda "
+     "$0,1($31)\n callsys", [], 1),
     # The first and the last quadword of the stack, which holds 0.
-    (".stack 32\ns: ldq $1,-8($30)\n stq $27,-32($30)\n ldq $2,-32($30)\n subq $2,$27,$2\n addq $1,$2,$16\n lda $0,1($31)\n callsys", [], 0),
+    (".stack 32\ns: ldq $1,-8($30)\n stq $27,-32($30)\n ldq $2,-32($30)\n subq $2,$27,$2\n addq $1,$2,$16\n lda "
+     "$0,1($31)\n callsys", [], 0),
     # Data that ends in the page in which the stack begins.
-    (".database 0x3fffe000\n.stack 16\ns: lda $1,7($31)\n stq $1,-16($30)\n ldah $2,16384($31)\n ldq $3,-8192($2)\n ldq $4,-16($30)\n "
+    (".database 0x3fffe000\n.stack 16\ns: lda $1,7($31)\n stq $1,-16($30)\n ldah $2,16384($31)\n ldq $3,-8192($2)\n "
+     "ldq $4,-16($30)\n "
      "addq $3,$4,$16\n lda $0,1($31)\n callsys\n.data\n.quad 5\n.zero 8000", [], 12),
     (".level 2\ns: lda $1,7($31)\n ctpop $1,$16\n lda $0,1($31)\n callsys", [], 3),
 ]
@@ -177,7 +185,9 @@ def test_a_difference_is_told_and_a_bad_image_refused(folder):
     companion("image2elf", os.path.join(folder, "nothing"), out, status=1)
     emulator()
     # A write to descriptor 2 is error 9 here, and is made there: R0 is 1 there.
-    write(source, b".entry s\ns: lda $16,2($31)\n bis $31,$27,$17\n lda $18,1($31)\n lda $0,4($31)\n callsys\n bis $31,$0,$16\n "
+    write(source,
+          b".entry s\ns: lda $16,2($31)\n bis $31,$27,$17\n lda $18,1($31)\n lda $0,4($31)\n callsys\n bis "
+          b"$31,$0,$16\n "
           b"lda $0,1($31)\n callsys\n")
     want(asked.call("asm", source, made), (0, b"", ""), "asm")
     _, notes = companion("image2elf", "--check-qemu", made, out, status=1)

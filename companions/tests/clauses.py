@@ -19,7 +19,8 @@ WITHOUT = "low\thalf\tbound\thow large it is\n"
 
 def told(folder, edit=EDIT, without=WITHOUT, source=SOURCE):
     """What the script says of a crate `low` of this source, with one edit and this list of clauses that have none."""
-    for path, text in (("crates/low/src/lib.rt", source), ("crates/low/must-fail/turned.edit", edit), ("bench/edits/without.tsv", without)):
+    for path, text in (("crates/low/src/lib.rt", source), ("crates/low/must-fail/turned.edit", edit),
+                       ("bench/edits/without.tsv", without)):
         os.makedirs(os.path.join(folder, os.path.dirname(path)), exist_ok=True)
         with open(os.path.join(folder, path), "w", encoding="utf-8") as file:
             file.write(text)
@@ -30,9 +31,12 @@ def told(folder, edit=EDIT, without=WITHOUT, source=SOURCE):
 
 def test_a_clause_has_an_edit_or_a_reason(folder):
     want(told(folder), (0, "2 public clauses: 1 have one of 1 edits, the others a reason for none\n"), "both")
-    want(told(folder, without=""), (1, "low, half: bound: no must-fail edit is for it, and bench/edits/without.tsv doesn't say why\n"), "no reason")
+    want(told(folder, without=""),
+         (1, "low, half: bound: no must-fail edit is for it, and bench/edits/without.tsv doesn't say why\n"),
+         "no reason")
     more = SOURCE + "\npub fn third(n: u64) -> u64\n    ensures { result ≡ n / 3 }\n{\n    n / 3\n}\n"
-    want(told(folder, source=more)[1], "low, third: no must-fail edit is for it, and bench/edits/without.tsv doesn't say why\n", "a new function")
+    want(told(folder, source=more)[1],
+         "low, third: no must-fail edit is for it, and bench/edits/without.tsv doesn't say why\n", "a new function")
 
 
 def test_an_edit_names_a_clause_that_is_there_and_can_be_applied(folder):
@@ -45,4 +49,5 @@ def test_an_edit_names_a_clause_that_is_there_and_can_be_applied(folder):
 
 def test_a_reason_that_no_clause_needs_is_seen(folder):
     more = WITHOUT + "low\thalf\tvalue\thow much it is\n"
-    want(told(folder, without=more), (1, "bench/edits/without.tsv: no clause needs low, half: value\n"), "an edit and a reason")
+    want(told(folder, without=more), (1, "bench/edits/without.tsv: no clause needs low, half: value\n"),
+         "an edit and a reason")

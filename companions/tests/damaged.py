@@ -6,7 +6,8 @@ import sys
 
 from .helpers import DATA, HERE, data, read, want, write
 
-PIECES = [b"\0", b"\xff", b'"', b"\\", b"/*", b"$", b"!", b"(", b",", b"\n", b";", b":", b"%lo(", b".section ", b".comm ", b"$f1", b"-", b"99999999999"]
+PIECES = [b"\0", b"\xff", b'"', b"\\", b"/*", b"$", b"!", b"(", b",", b"\n", b";", b":", b"%lo(", b".section ",
+          b".comm ", b"$f1", b"-", b"99999999999"]
 
 
 def damaged(content, count, seed):
@@ -24,7 +25,8 @@ def damaged(content, count, seed):
 def answers(folder, name, *words, given=b""):
     """Whether a companion's call is done. It may refuse, with a line, and then no file is new."""
     before = set(os.listdir(folder))
-    done = subprocess.run([sys.executable, os.path.join(HERE, name), *words], input=given, capture_output=True, check=False)
+    done = subprocess.run([sys.executable, os.path.join(HERE, name), *words], input=given, capture_output=True,
+                          check=False)
     notes = done.stderr.decode("utf-8", "replace")
     want((done.returncode in (0, 1), "Traceback" in notes), (True, False), f"{name}: status {done.returncode}: {notes}")
     if done.returncode:
@@ -50,6 +52,7 @@ def test_damaged_sources_and_maps_are_laid_out_or_refused(folder):
 
 
 def test_damaged_lines_are_explained_or_refused(folder):
-    line = b"source kind 1 line 3 column 5 detail 2\nbroken trigger 0000000000010000 at 0000000000010004 condition C4\nlost 0000000000010000 mask 4\n"
+    line = (b"source kind 1 line 3 column 5 detail 2\nbroken trigger 0000000000010000 at 0000000000010004 condition "
+            b"C4\nlost 0000000000010000 mask 4\n")
     for content in damaged(line, 12, 13):
         answers(folder, "explain", given=content)

@@ -20,7 +20,8 @@ table:\t.quad 1, nothing
 \t.byte 9
 $L3:\tnop
 """
-WANTED = [(0, 0, 6, 0), (1, 2, 1, 2), (2, 15, 1, 3), (3, 2, 1, 2), (4, 10, 1, 4), (5, 0, 3, 0), (6, 0, 2, 0), (7, 0, 5, 0), (8, 2, 1, 2),
+WANTED = [(0, 0, 6, 0), (1, 2, 1, 2), (2, 15, 1, 3), (3, 2, 1, 2), (4, 10, 1, 4), (5, 0, 3, 0), (6, 0, 2, 0),
+          (7, 0, 5, 0), (8, 2, 1, 2),
           (9, 0, 3, 0), (10, 0, 5, 0), (11, 2, 1, 2), (13, 0, 5, 0), (14, 1, 1, 2)]
 
 
@@ -47,8 +48,10 @@ def test_of_a_module_the_option_is_named(folder):
 def test_each_faulty_line_is_told_once(folder):
     found, out, notes = told(folder, BAD.encode())
     want(found, WANTED, "faults")
-    want((out.splitlines()[-1], "companions/gas2source makes a source" in notes), ("14 faults", True), "the last line, and the advice")
-    want("a.s:4:10: a number outside its range (kind 1 line 4 column 10 detail 4)\n            addq $1,256,$2\n                    ^\n" in out,
+    want((out.splitlines()[-1], "companions/gas2source makes a source" in notes), ("14 faults", True),
+         "the last line, and the advice")
+    want("a.s:4:10: a number outside its range (kind 1 line 4 column 10 detail 4)\n            addq $1,256,$2\n        "
+         "            ^\n" in out,
          True, out)
 
 
@@ -56,9 +59,12 @@ def test_each_faulty_line_is_told_once(folder):
 def test_what_follows_a_fault_is_judged_as_if_it_were_mended(folder):
     nop = b"\tnop\n"
     cases = [(b"\t.entry s\ns:\tnop\n", []), (b"\t.entry s\n\t.entry s\n" + b"s:" + nop, [(2, 0, 2, 0)]),
-             (b"\t.entry t\ns:\tnop\n", [(1, 0, 3, 0)]), (b"\t.codebase 0x12000\n\t.entry t\ns:\tnop\n\tctpop $1,$2\n", [(2, 0, 3, 0), (4, 0, 5, 0)]),
-             (b"\t.entry s\ns:\tbr s+2\n\tbr s+1\n", [(2, 0, 4, 0), (3, 0, 4, 0)]), (b"\t.entry 7\n" + nop, [(0, 0, 8, 7)]),
-             (b"\t.entry s\ns:\tldq $1\n\tbr s\n", [(2, 10, 1, 3)]), (b"\t.entry s\ns:\tnop\n" + b"#" * 1025 + b"\n\tnip\n", [(3, 0, 7, 0), (4, 2, 1, 2)]),
+             (b"\t.entry t\ns:\tnop\n", [(1, 0, 3, 0)]),
+             (b"\t.codebase 0x12000\n\t.entry t\ns:\tnop\n\tctpop $1,$2\n", [(2, 0, 3, 0), (4, 0, 5, 0)]),
+             (b"\t.entry s\ns:\tbr s+2\n\tbr s+1\n", [(2, 0, 4, 0), (3, 0, 4, 0)]),
+             (b"\t.entry 7\n" + nop, [(0, 0, 8, 7)]),
+             (b"\t.entry s\ns:\tldq $1\n\tbr s\n", [(2, 10, 1, 3)]),
+             (b"\t.entry s\ns:\tnop\n" + b"#" * 1025 + b"\n\tnip\n", [(3, 0, 7, 0), (4, 2, 1, 2)]),
              (b"\t.entry s\r\ns:\tnop\r\n\t.segment 8192\r\n\t.quad t\r\n", [(3, 0, 5, 0), (4, 0, 3, 0)])]
     for content, wanted in cases:
         found, _, notes = told(folder, content)

@@ -22,7 +22,8 @@ def compiler():
 def faulty(*words):
     """The status and the output of conformance/faulty."""
     compiler()
-    done = subprocess.run([sys.executable, os.path.join(SUITE, "faulty"), *words], capture_output=True, text=True, check=False)
+    done = subprocess.run([sys.executable, os.path.join(SUITE, "faulty"), *words], capture_output=True, text=True,
+                          check=False)
     if "Traceback" in done.stderr or done.returncode not in (0, 1):
         raise Failed(f"{words}: status {done.returncode}: {done.stderr}")
     return done.returncode, done.stdout
@@ -31,11 +32,13 @@ def faulty(*words):
 def test_the_example_passes_the_suite(folder):
     """As its author compiles it, with no warning; and `faulty` makes its faults of the same text."""
     made, right = (os.path.join(folder, name) for name in ("emulator", "right"))
-    done = subprocess.run([compiler(), "-Wall", "-Wextra", "-Werror", "-o", made, EXAMPLE], capture_output=True, text=True, check=False)
+    done = subprocess.run([compiler(), "-Wall", "-Wextra", "-Werror", "-o", made, EXAMPLE], capture_output=True,
+                          text=True, check=False)
     want((done.returncode, done.stderr), (0, ""), "the example")
     want(faulty("--make", "none", right), (0, ""), "the right emulator")
     commands = {"--run": RUN, "--follow": FOLLOW, "--record": RECORD, "--choose": f"run {CHOOSE}", "--judge": FOLLOW}
-    words = [word for name, text in commands.items() for word in (name, text if text.startswith(made) else f"{shlex.quote(made)} {text}")]
+    words = [word for name, text in commands.items()
+             for word in (name, text if text.startswith(made) else f"{shlex.quote(made)} {text}")]
     status, said = against(*words, "--seeds", "1")
     want(status, 0, said)
 
@@ -63,18 +66,24 @@ def test_the_text_of_each_fault_stands_once(_):
 # Of some faults, how they are run over which files, and what is told of the place.
 PLACES = [
     ("first-inswh", "--run", RUN, "answers/values-extracts", [
-        "values-extracts.s:87: inswh $1,$2,$3 is otherwise in 21 of 42 rows\n    otherwise: $1 = 0x8877665544332211, $2 = 0x7 gives 0x0, and 0x22 is wanted\n",
-        "\n    right: $1 = 0x8877665544332211, $2 = 0x0 gives 0x0\n", "otherwise too: inswh $1,188,$3 in 21\n  right in all rows: 26 of 28 lines\n"]),
+        "values-extracts.s:87: inswh $1,$2,$3 is otherwise in 21 of 42 rows\n    otherwise: $1 = 0x8877665544332211, "
+        "$2 = 0x7 gives 0x0, and 0x22 is wanted\n",
+        "\n    right: $1 = 0x8877665544332211, $2 = 0x0 gives 0x0\n",
+        "otherwise too: inswh $1,188,$3 in 21\n  right in all rows: 26 of 28 lines\n"]),
     ("addq/v-saturate", "--run", RUN, "answers/completions.saturate", [
         "$3 is set by completions.s:23: addq/v $2,1,$3, with $2 = 0x7fffffffffffffff\n"]),
     ("addl/v-overflows-at-its-least", "--run", RUN, "answers/values-triggers.wrap", [
-        "told: values-triggers.s:18: addl/v $1,$2,$3, which doesn't overflow there, with $1 = 0x0, $2 = 0x80000000: exactly -2147483648\n",
+        "told: values-triggers.s:18: addl/v $1,$2,$3, which doesn't overflow there, with $1 = 0x0, $2 = 0x80000000: "
+        "exactly -2147483648\n",
         "values-triggers.s:18: addl/v $1,$2,$3: told 19 times in all, and wanted 17 times\n"]),
     ("report-here", "--follow", FOLLOW, "journals/late-loop.wrap.1.", [
-        "before it item 4, the report at late-loop.s:24: subl/v $2,$12,$6 with mask 16, completes late-loop.s:21: mulq/v $11,$2,$4, "
-        "whose $4 gets c000000000000000, and goes on behind that\n  item 5 is `units 25` at late-loop.s:22: ldl $5,8($9)\n"]),
+        "before it item 4, the report at late-loop.s:24: subl/v $2,$12,$6 with mask 16, completes late-loop.s:21: "
+        "mulq/v $11,$2,$4, "
+        "whose $4 gets c000000000000000, and goes on behind that\n  item 5 is `units 25` at late-loop.s:22: ldl "
+        "$5,8($9)\n"]),
     ("jsr_coroutine-clears-no-low-bit", "--run", RUN, "answers/jumps.wrap", [
-        "the notes end before `barrier 000000000001005c`; the end is `fetch 000000000001005a`, and `exit 65688` is wanted\n"]),
+        "the notes end before `barrier 000000000001005c`; the end is `fetch 000000000001005a`, and `exit 65688` is "
+        "wanted\n"]),
 ]
 
 
@@ -94,28 +103,35 @@ MISBEHAVED = [
     ("it writes notes without end", "sh -c 'yes >&2'", "it wrote more than 16,777,216 bytes, and was stopped"),
     ("it writes nothing", "true", "the end is `no line`, and `exit 0` is wanted"),
     ("it isn't there", "./no-such-emulator", "./no-such-emulator: No such file or directory"),
-    ("it is killed behind its notes", "sh -c 'echo exit 0 >&2; kill -SEGV $$'", "it was ended by SIGSEGV behind `exit 0`, and 0 is wanted"),
+    ("it is killed behind its notes", "sh -c 'echo exit 0 >&2; kill -SEGV $$'",
+     "it was ended by SIGSEGV behind `exit 0`, and 0 is wanted"),
     ("its status is another", "sh -c 'echo exit 0 >&2; exit 3'", "its status is 3 behind `exit 0`, and 0 is wanted"),
-    ("it is killed before its end", "sh -c 'kill -SEGV $$'", "the end is `no line`, and `exit 0` is wanted; it was ended by SIGSEGV"),
+    ("it is killed before its end", "sh -c 'kill -SEGV $$'",
+     "the end is `no line`, and `exit 0` is wanted; it was ended by SIGSEGV"),
 ]
 
 
 def test_emulators_that_do_not_behave_are_failed_cases(_):
     for what, command, told in MISBEHAVED:
-        status, said = against("--run", command, "--only", "calls-wide.exit-value-0", "--seconds", "0.5" if "hang" in what else "10")
+        status, said = against("--run", command, "--only", "calls-wide.exit-value-0", "--seconds", "0.5"
+                               if "hang" in what else "10")
         want((status, said.splitlines()[0]), (1, f"calls-wide.exit-value-0: {told}"), what)
 
 
 def test_a_journal_without_end_is_a_failed_case(_):
-    status, said = against("--record", "sh -c 'yes > {journal}'", "--judge", "true", "--only", "answers/end-bpt", "--seeds", "1", "--seconds", "20")
+    status, said = against("--record", "sh -c 'yes > {journal}'", "--judge", "true", "--only", "answers/end-bpt",
+                           "--seeds", "1", "--seconds", "20")
     want((status, "end-bpt by wrap with seed 1: " in said), (1, True), said)
 
 
 def test_bad_images_must_be_refused_and_good_ones_run(folder):
     """An emulator that refuses every image, and one that tells another fault."""
     path = os.path.join(folder, "emulator")
-    for line, only, told in (("image kind 3 first 1 second 0", "images.code-base-0", None), ("image kind 3 first 2 second 0", "images.code-base-0", "and `image kind 3 first 1 second 0` is wanted"),
-                             ("bad image", "images.code-base-0", None), ("image kind 3 first 1 second 0", "images.code-at-0", "It is a good image")):
+    for line, only, told in (("image kind 3 first 1 second 0", "images.code-base-0", None),
+                             ("image kind 3 first 2 second 0", "images.code-base-0",
+                              "and `image kind 3 first 1 second 0` is wanted"),
+                             ("bad image", "images.code-base-0", None),
+                             ("image kind 3 first 1 second 0", "images.code-at-0", "It is a good image")):
         write(path, f"#!/bin/sh\necho {line} >&2\nexit 4\n".encode())
         os.chmod(path, 0o755)
         status, said = against("--run", shlex.quote(path), "--only", only)

@@ -8,12 +8,14 @@ from parts import program
 from .helpers import ASKED, HERE, TOP, needs_program, want, write
 
 REFUSED = "1 of 1 /V words are broken\n  C2 1  a source is lost\n"
-SCRIPT = "#!/bin/sh\ntouch {mark}\n[ \"$1\" != --version ] || echo 'the sources are others now: the next call makes it anew'\n"
+SCRIPT = ("#!/bin/sh\ntouch {mark}\n[ \"$1\" != --version ] || echo 'the sources are others now: the next call makes "
+          "it anew'\n")
 
 
 def copied(folder):
     """A folder for the companions, without what the tests need."""
-    shutil.copytree(HERE, os.path.join(folder, "companions"), ignore=shutil.ignore_patterns("data", "tests", "__pycache__"))
+    shutil.copytree(HERE, os.path.join(folder, "companions"),
+                    ignore=shutil.ignore_patterns("data", "tests", "__pycache__"))
     return os.path.join(folder, "companions", "allbroken")
 
 
@@ -30,7 +32,8 @@ def put_script(path, mark):
 def called(folder, path, *words, **variables):
     """Status, output and notes of a companion that is called in a folder, where only `variables` say a program."""
     env = {name: value for name, value in os.environ.items() if name != "ALPHA"} | variables
-    done = subprocess.run([sys.executable, path, "--counts", *words, os.path.join(TOP, "examples", "refused.img")], cwd=folder, env=env,
+    done = subprocess.run([sys.executable, path, "--counts", *words, os.path.join(TOP, "examples", "refused.img")],
+                          cwd=folder, env=env,
                           capture_output=True, text=True, check=False)
     return done.returncode, done.stdout, done.stderr
 
@@ -72,7 +75,8 @@ def test_in_a_checkout_the_proved_program_is_taken_and_another_is_said(folder):
     want(("no program is there" in notes, "./look trial 1" in notes, os.path.exists(mark)), (True, True, False), notes)
     put_program(os.path.join(folder, program.LOOK))
     stale = "was made of other sources than are here now\n"
-    want(called(folder, path), (3, REFUSED, f"allbroken: asks .look/alpha_tool, which is compiled and not proved and {stale}"), "./look")
+    want(called(folder, path),
+         (3, REFUSED, f"allbroken: asks .look/alpha_tool, which is compiled and not proved and {stale}"), "./look")
     want(called(folder, path, "--alpha", "./alpha")[0], 1, "./alpha without its program")
     put_program(os.path.join(folder, program.BUILT))
     want(called(folder, path), (3, REFUSED, f"allbroken: asks {program.BUILT}, which {stale}"), "./alpha")

@@ -27,10 +27,12 @@ def test_each_address_of_a_linked_image_has_the_line_of_its_module(folder):
     rows = out.splitlines()
     want(len(rows), len(lines), "rows")
     # The module of each word, by where a link puts it: the code of each behind that before it.
-    owners = [os.path.basename(source) for source in sources for _ in module.read_module(source.replace(".as", ".mod")).words]
+    owners = [os.path.basename(source) for source in sources
+              for _ in module.read_module(source.replace(".as", ".mod")).words]
     for row, owner, line in zip(rows, owners, lines):
         told = row.partition(f", {owner}:")[2].partition(": ")[2]
-        if not told or told.split()[0] != line.split()[0] and not told.startswith(("mov ", "clr ", "nop", "unop", "ret")):
+        if (not told
+            or told.split()[0] != line.split()[0] and not told.startswith(("mov ", "clr ", "nop", "unop", "ret"))):
             raise Failed(f"{row}, and the word is {line} of {owner}")
 
 
@@ -60,13 +62,16 @@ def test_sources_of_other_modules_are_refused(folder):
 def test_a_changed_line_is_named(folder):
     asked = program.Program(ASKED)
     source, made = os.path.join(folder, "a.as"), os.path.join(folder, "a.img")
-    text = "\t.entry s\n\t.code\ns:\tlda $1,%lo(x)($31)\n\tbr t\nt:\taddq/v $1,$2,$3\n\ttrapb\n\tcallsys\n\t.data\nx:\t.quad t\n\t.byte 7\n"
+    text = ("\t.entry s\n\t.code\ns:\tlda $1,%lo(x)($31)\n\tbr t\nt:\taddq/v "
+            "$1,$2,$3\n\ttrapb\n\tcallsys\n\t.data\nx:\t.quad t\n\t.byte 7\n")
     write(source, text.encode())
     want(asked.call("asm", source, made), (0, b"", ""), "asm")
     fits(asked, made, [source])
     changes = [("addq/v $1,$2,$3", "addq/v $1,$2,$4", "a.as:5: this line makes 40220c04 at 0000000000010008, where"),
-               ("br t", "br s", "a.as:4:"), (".byte 7", ".byte 8", "another byte at 0000000010000008"), ("\ttrapb\n", "", "5 code words"),
-               (".byte 7", ".byte 7,7", "data bytes"), ("\t.code", "\t.codebase 0x12000\n\t.code", "begins at 0x10000, by"),
+               ("br t", "br s", "a.as:4:"), (".byte 7", ".byte 8", "another byte at 0000000010000008"),
+               ("\ttrapb\n", "", "5 code words"),
+               (".byte 7", ".byte 7,7", "data bytes"),
+               ("\t.code", "\t.codebase 0x12000\n\t.code", "begins at 0x10000, by"),
                ("lda $1", "ldq $1,", "source kind 1 line 3 "), ("lda $1", "ldq $1", "a.as:3:")]
     for old, new, said in changes:
         write(source, text.replace(old, new).encode())
@@ -77,7 +82,8 @@ def test_a_changed_line_is_named(folder):
 def test_a_source_with_a_level_is_held_by_its_segments(folder):
     asked = program.Program(ASKED)
     source, made = os.path.join(folder, "a.as"), os.path.join(folder, "a.img")
-    text = "\t.level 2\n\t.entry s\n\t.code\ns:\tctpop $1,$2\n\tcallsys\n\t.segment 0x10000000\n\t.byte 7\n\t.segment 0x10002000\n\t.zero 9\n"
+    text = ("\t.level 2\n\t.entry s\n\t.code\ns:\tctpop $1,$2\n\tcallsys\n\t.segment 0x10000000\n\t.byte 7\n\t.segment "
+            "0x10002000\n\t.zero 9\n")
     write(source, text.encode())
     want(asked.call("asm", source, made), (0, b"", ""), "asm")
     fits(asked, made, [source])
@@ -89,13 +95,17 @@ def test_a_source_with_a_level_is_held_by_its_segments(folder):
 def test_modules_are_read_as_the_program_writes_them(folder):
     asked = program.Program(ASKED)
     source, made = os.path.join(folder, "a.as"), os.path.join(folder, "a.mod")
-    write(source, b"\t.code\nf:\tldah $1,%hi(far+70000)($31)\n\tlda $1,%lo(far-4)($1)\n\tbeq $1,f\n\t.data\n\t.quad f+8\nd:\t.zero 3\n")
+    write(source,
+          b"\t.code\nf:\tldah $1,%hi(far+70000)($31)\n\tlda $1,%lo(far-4)($1)\n\tbeq $1,f\n\t.data\n\t.quad "
+          b"f+8\nd:\t.zero 3\n")
     want(asked.call("module", source, made), (0, b"", ""), "module")
     one = module.read_module(made)
     # The words of GNU as, with displacements of 0: ldah $1,0($31), lda $1,0($1), beq $1,.+4.
-    want((one.words, one.data, one.zeroed), ([0x243F0000, 0x20210000, 0xE4200000], bytes(8), 3), "words, data, zeroed bytes")
+    want((one.words, one.data, one.zeroed), ([0x243F0000, 0x20210000, 0xE4200000], bytes(8), 3),
+         "words, data, zeroed bytes")
     want([tuple(it) for it in one.symbols], [(1, "d", 8), (0, "f", 0), (2, "far", 0)], "symbols")
-    want([tuple(it) for it in one.relocations], [(1, 0, 2, 70000), (2, 4, 2, -4), (0, 8, 1, 0), (3, 0, 1, 8)], "relocations")
+    want([tuple(it) for it in one.relocations], [(1, 0, 2, 70000), (2, 4, 2, -4), (0, 8, 1, 0), (3, 0, 1, 8)],
+         "relocations")
     content = read(made, "rb")
     for cut in range(len(content)):
         try:
@@ -113,12 +123,14 @@ def test_damaged_images_and_sources_are_refused(folder):
     write(source, b"\t.entry s\ns:\taddq/v $1,$2,$3\n\tcallsys\n")
     want(asked.call("asm", source, made), (0, b"", ""), "asm")
     content = read(made, "rb")
-    damaged = [b"", content[:20], content[:-1], content + b"\0", b"ALPHAIM2" + content[8:], content[:32] + b"\xff" * 4 + content[36:],
+    damaged = [b"", content[:20], content[:-1], content + b"\0", b"ALPHAIM2" + content[8:],
+               content[:32] + b"\xff" * 4 + content[36:],
                content[:48] + b"\xff" * 4 + content[52:]]
     for count, one in enumerate(damaged):
         write(bad, one)
         companion_on(NAMES[count % 3], bad, [source], status=1)
-    for count, one in enumerate([b"", b"\0" * 9, b"\xff\xfe\t.entry s\n", content, b"\t.align\n", b".zero x\n", b".codebase\n"]):
+    for count, one in enumerate([b"", b"\0" * 9, b"\xff\xfe\t.entry s\n", content, b"\t.align\n", b".zero x\n",
+                                 b".codebase\n"]):
         write(bad, one)
         companion_on(NAMES[count % 3], made, [bad], status=1)
 
@@ -156,4 +168,5 @@ def test_labels_of_modules_stand_where_the_link_puts_them(folder):
         laid = places.laid_out(sources)
         table = image.read_image(path).segments[0].data[laid[-1].begin - laid[0].begin:]
         addresses = {name: address for source in laid for address, name, _ in source.names.rows}
-        want([addresses[name] for name in names], [int.from_bytes(table[8 * n:8 * n + 8], "little") for n in range(len(names))], "labels")
+        want([addresses[name] for name in names],
+             [int.from_bytes(table[8 * n:8 * n + 8], "little") for n in range(len(names))], "labels")

@@ -36,7 +36,8 @@ def want(given, wanted, what=""):
 
 def companion(name, *words, given=b"", status=0):
     """The output and the notes of a companion's call, which must end with the status and never by a fault of Python."""
-    done = subprocess.run([sys.executable, os.path.join(HERE, name), *map(str, words)], input=given, capture_output=True,
+    done = subprocess.run([sys.executable, os.path.join(HERE, name), *map(str, words)], input=given,
+                          capture_output=True,
                           check=False, env=os.environ | {"ALPHA": ASKED})
     notes = done.stderr.decode("utf-8", "replace")
     if done.returncode != status or "Traceback" in notes:
@@ -62,7 +63,8 @@ def rows(name):
 
 
 def words_of(text):
-    return [int(word, 16) for part in text.split() for word, _, count in [part.partition("*")] for _ in range(int(count or 1))]
+    return [int(word, 16) for part in text.split() for word, _, count in [part.partition("*")]
+            for _ in range(int(count or 1))]
 
 
 def write_image(path, words, level=0):
@@ -94,7 +96,8 @@ def runs_alike(asked, name, made):
     first = asked.call("run", made, given=given)
     want((first[0], first[1], first[2].split("\n")[-2]), (0, wanted, f"exit {int(value)}"), name)
     for seed in range(3):
-        want(asked.call("run", "--imprecise", "--seed", str(seed), made, given=given), first, f"{name} with seed {seed}")
+        want(asked.call("run", "--imprecise", "--seed", str(seed), made, given=given), first,
+             f"{name} with seed {seed}")
 
 
 def blocks(page):
@@ -103,7 +106,8 @@ def blocks(page):
 
 def runs_as_shown(folder, page, shown_blocks, **variables):
     """Runs the commands of a page one after another, and holds what they write against the page."""
-    for name, path in (("companions", HERE), ("alpha", os.path.abspath(ASKED)), ("examples", os.path.join(TOP, "examples"))):
+    for name, path in (("companions", HERE), ("alpha", os.path.abspath(ASKED)),
+                       ("examples", os.path.join(TOP, "examples"))):
         if not os.path.exists(os.path.join(folder, name)):
             os.symlink(path, os.path.join(folder, name))
     want(bool(shown_blocks), True, page)

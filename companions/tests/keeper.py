@@ -8,7 +8,8 @@ import subprocess
 import sys
 
 from parts import elf, functions, image, judged, linked, program, table
-from .helpers import ASKED, HERE, TOP, Failed, Lacking, blocks, companion, data, needs_program, read, rows, runs_as_shown, want, write
+from .helpers import (ASKED, HERE, TOP, Failed, Lacking, blocks, companion, data, needs_program, read, rows,
+                      runs_as_shown, want, write)
 
 RAW = os.path.join(TOP, "examples", "raw_image.py")
 AWAY = 0x120000000
@@ -40,7 +41,8 @@ def verdicts_of(path):
 
 
 def moved_elf(path, distance):
-    """A linked ELF file with all addresses of its parts, sections and symbols a distance higher. Its words are as they were."""
+    """A linked ELF file with all addresses of its parts, sections and symbols a distance higher. Its words are as they
+    were."""
     content = bytearray(read(path, "rb"))
     programs, table = struct.unpack_from("<QQ", content, 32)
     for at in range(programs, programs + 56 * content[56], 56):
@@ -63,7 +65,8 @@ def test_functions_are_judged_as_a_loop_by_hand_judges_them(folder):
     asked = program.Program(ASKED)
     wanted = by_hand(asked, folder, data("sort.elf"))
     told, last = verdicts_of(data("sort.elf"))
-    want(sorted(name.split()[2] for name, verdict in wanted.items() if verdict != "accepted"), ["main", "print", "sift"], "broken")
+    want(sorted(name.split()[2] for name, verdict in wanted.items() if verdict != "accepted"),
+         ["main", "print", "sift"], "broken")
     want({name: told[name].split(";")[0] for name in wanted}, wanted, "verdicts")
     want(told["0000000000012424 0000000c by_zero"], "accepted; no /V word", "a label without a size")
     want(told["0000000000017c10 00000000 _end"], "no verdict: no code", "a symbol outside the code")
@@ -71,7 +74,8 @@ def test_functions_are_judged_as_a_loop_by_hand_judges_them(folder):
     away = os.path.join(folder, "away.elf")
     write(away, moved_elf(data("sort.elf"), AWAY))
     higher = {re.sub(r"^[0-9a-f]{16}", lambda hit: f"{int(hit[0], 16) + AWAY:016x}", name):
-              re.sub(r"[0-9a-f]{16}", lambda hit: f"{int(hit[0], 16) + AWAY:016x}", verdict) for name, verdict in told.items()}
+              re.sub(r"[0-9a-f]{16}", lambda hit: f"{int(hit[0], 16) + AWAY:016x}", verdict)
+              for name, verdict in told.items()}
     want(verdicts_of(away), (higher, last), "the same at another address")
     companion("elf2image", away, os.path.join(folder, "a.img"), status=1)
 
@@ -98,14 +102,16 @@ def test_a_function_without_a_verdict_says_why(folder):
     struct.pack_into("<I", content, at + 0x150, 0x47FF041F)
     write(path, content)
     told, last = verdicts_of(path)
-    want(told["0000000000012000 00000144 .text"], "broken trigger 000000000001205c at 0000000000012060 condition C7", "a stripped file")
+    want(told["0000000000012000 00000144 .text"], "broken trigger 000000000001205c at 0000000000012060 condition C7",
+         "a stripped file")
     want(last.startswith(f"{len(told)} rows of words in no symbol: "), True, last)
     companion("elf2image", "--function", ".text", path, os.path.join(folder, "a.img"))
 
 
-# Four functions, of which two have names: `addq/v $1,$2,$3`, a word of floating point, `trapb`, `ret`; then `addq/v $1,$2,$1`,
-# `ret`, a filler; then `addq/v $1,$2,$3`, `trapb`, a word of floating point, `ret`; then `ret`.
-MIXED = struct.pack("<12I", 0x40220C03, 0x5FFF040B, 0x63FF0000, 0x6BFA8001, 0x40220C01, 0x6BFA8001, 0x47FF041F, 0x40220C03, 0x63FF0000,
+# Four functions, of which two have names: `addq/v $1,$2,$3`, a word of floating point, `trapb`, `ret`; then `addq/v
+# $1,$2,$1`, `ret`, a filler; then `addq/v $1,$2,$3`, `trapb`, a word of floating point, `ret`; then `ret`.
+MIXED = struct.pack("<12I", 0x40220C03, 0x5FFF040B, 0x63FF0000, 0x6BFA8001, 0x40220C01, 0x6BFA8001, 0x47FF041F,
+                    0x40220C03, 0x63FF0000,
                     0x5FFF040B, 0x6BFA8001, 0x6BFA8001)
 
 
@@ -115,9 +121,11 @@ def test_code_in_no_symbol_and_words_of_floating_point_have_verdicts(_):
     text = linked.Section(".text", linked.PROGBITS, linked.EXEC, AWAY, MIXED, len(MIXED))
     whole.sections = [text]
     whole.symbols = [linked.Symbol(AWAY, 16, "func", "first"), linked.Symbol(AWAY + 44, 4, "func", "last")]
-    wanted = {"first": f"no verdict: {AWAY + 4:016x} is 5fff040b: floating point, opcode 17, in the shadow of {AWAY:016x}",
+    wanted = {"first": f"no verdict: {AWAY + 4:016x} is 5fff040b: floating point, opcode 17, in the shadow of "
+                       f"{AWAY:016x}",
               ".text+0x10": f"broken trigger {AWAY + 16:016x} at {AWAY + 16:016x} condition C2",
-              ".text+0x1c": f"accepted but for words in no shadow: {AWAY + 36:016x} is 5fff040b: floating point, opcode 17",
+              ".text+0x1c": f"accepted but for words in no shadow: {AWAY + 36:016x} is 5fff040b: floating point, "
+                            f"opcode 17",
               "last": "accepted; no /V word"}
     for symbols, names in [(whole.symbols, list(wanted)), ([], [".text", ".text+0x10", ".text+0x1c", ".text+0x2c"])]:
         whole.symbols = symbols
@@ -139,7 +147,8 @@ def test_one_symbol_has_an_image(folder):
     for words, said in ([["--function", "nobody", data("sort.elf"), made], "nobody"],
                         [["--function", "_end", data("sort.elf"), made], "no code"]):
         want(said in companion("elf2image", *words, status=1)[1], True, words)
-    for words in (["--functions", data("sort.elf"), made], [data("sort.elf")], ["--functions", "--function", "x", data("sort.elf")]):
+    for words in (["--functions", data("sort.elf"), made], [data("sort.elf")],
+                  ["--functions", "--function", "x", data("sort.elf")]):
         companion("elf2image", *words, status=2)
     want(read(made, "rb"), first, "OUT after a refusal")
 
@@ -200,7 +209,8 @@ def test_static_procedures_of_ecoff_files_are_seen(folder):
     if shutil.which("alpha-linux-gnu-nm"):
         shown = subprocess.run(["alpha-linux-gnu-nm", path], capture_output=True, text=True, check=True).stdout
         want(f"{AWAY:016x} T first\n" in shown, True, shown)
-    for content, said in [(written_ecoff(0x3007), "-non_shared"), (written_ecoff(0x1005), "object file"), (b"\x88\x01" + bytes(200), "compressed")]:
+    for content, said in [(written_ecoff(0x3007), "-non_shared"), (written_ecoff(0x1005), "object file"),
+                          (b"\x88\x01" + bytes(200), "compressed")]:
         write(path, content)
         want(said in companion("elf2image", path, out, status=1)[1], True, said)
     write(path, written_ecoff(0x3007))
@@ -246,7 +256,8 @@ def ends_well(name, *words):
     done = subprocess.run([sys.executable, os.path.join(HERE, name), *words], capture_output=True, check=False,
                           env=os.environ | {"ALPHA": ASKED})
     notes = done.stderr.decode("utf-8", "replace")
-    if done.returncode not in (0, 1, 3) or "Traceback" in notes or (done.returncode == 1) != bool(notes.strip()) and name != "shadowfix":
+    if (done.returncode not in (0, 1, 3) or "Traceback" in notes
+        or (done.returncode == 1) != bool(notes.strip()) and name != "shadowfix"):
         raise Failed(f"{name} {' '.join(words)}: status {done.returncode}: {notes}")
 
 
@@ -270,8 +281,10 @@ def test_a_listing_is_a_text_for_gnu_as(folder):
     words = [int(word, 16) for _, word in rows("encodings.tsv")]
     write(made, image.Image(words, 0x10000, 0x10000, [], 65_536, 2).spelled())
     listing = subprocess.run([ASKED, "dis", made], capture_output=True, check=True).stdout
-    labelled = subprocess.run(["awk", "-f", os.path.join(TOP, "examples", "labels.awk")], input=listing, capture_output=True, check=True)
-    turned = subprocess.run(["sed", "-E", "-f", os.path.join(TOP, "examples", "to-gnu.sed")], input=labelled.stdout, capture_output=True,
+    labelled = subprocess.run(["awk", "-f", os.path.join(TOP, "examples", "labels.awk")], input=listing,
+                              capture_output=True, check=True)
+    turned = subprocess.run(["sed", "-E", "-f", os.path.join(TOP, "examples", "to-gnu.sed")], input=labelled.stdout,
+                            capture_output=True,
                             check=True)
     write(text, turned.stdout)
     subprocess.run(["alpha-linux-gnu-as", text, "-o", again], check=True)

@@ -46,7 +46,8 @@ def test_elf2image_sets_barriers_and_lists_other_words(folder):
         file.write(content)
     _, notes = companion("elf2image", path, out, status=1)
     want(notes.split("\n")[1:4], [f"elf2image:   {text.address + 4 * n:016x} main+{4 * n:#x}: {word}" for n, word in
-                                  [(2, "5fff041f floating point, opcode 17"), (3, "63e0c000 rpcc"), (4, "0000009d PALcode call 0x9d")]],
+                                  [(2, "5fff041f floating point, opcode 17"), (3, "63e0c000 rpcc"),
+                                   (4, "0000009d PALcode call 0x9d")]],
          "words")
     want(read(out, "rb"), keep, "OUT after a refusal")
 
@@ -65,7 +66,8 @@ def test_damaged_files_are_refused_whole(folder):
     for one in damaged:
         with open(path, "wb") as file:
             file.write(one)
-        done = subprocess.run([sys.executable, os.path.join(HERE, "elf2image"), path, out], capture_output=True, check=False)
+        done = subprocess.run([sys.executable, os.path.join(HERE, "elf2image"), path, out], capture_output=True,
+                              check=False)
         notes = done.stderr.decode("utf-8", "replace")
         want(done.returncode in (0, 1) and "Traceback" not in notes, True, notes)
         want(os.path.exists(out), done.returncode == 0, notes)

@@ -7,8 +7,8 @@ from parts import image, program
 from .helpers import ASKED, DATA, HERE, Lacking, companion, needs_program, read, want
 
 PARTS = ("main", "numbers", "print")
-# Numbers whose product is more than 2^63, and what comes of them, worked by hand: 12 * 3,000,000 * 70,000,000,000 * 9 is
-# 22,680,000,000,000,000,000, less 2^64; the mean is the sum by four, cut.
+# Numbers whose product is more than 2^63, and what comes of them, worked by hand: 12 * 3,000,000 * 70,000,000,000 * 9
+# is 22,680,000,000,000,000,000, less 2^64; the mean is the sum by four, cut.
 GIVEN = b"12 3000000 70000000000 9\n"
 PUT = b"numbers 4\nsum 70003000021\nproduct 4233255926290448384\nmean 17500750005\n"
 
@@ -58,10 +58,12 @@ def runs(asked, made):
 def test_other_options_of_the_compiler_make_modules_that_run_alike(folder):
     if shutil.which("alpha-linux-gnu-gcc") is None:
         raise Lacking("there is no alpha-linux-gnu-gcc on the path")
-    for options in (["-O0"], ["-O3", "-msmall-data"], ["-Os", "-mno-explicit-relocs"], ["-O2", "-fPIC", "-fsection-anchors"]):
+    for options in (["-O0"], ["-O3", "-msmall-data"], ["-Os", "-mno-explicit-relocs"],
+                    ["-O2", "-fPIC", "-fsection-anchors"]):
         texts = os.path.join(folder, "texts")
         os.makedirs(texts, exist_ok=True)
-        subprocess.run(["alpha-linux-gnu-gcc", *options, "-ftrapv", "-ffixed-28", "-ffreestanding", "-fno-jump-tables", "-S",
+        subprocess.run(["alpha-linux-gnu-gcc", *options, "-ftrapv", "-ffixed-28", "-ffreestanding", "-fno-jump-tables",
+                        "-S",
                         *(os.path.join(DATA, "three", f"{name}.c") for name in PARTS)], cwd=texts, check=True)
         runs(program.Program(ASKED), linked(program.Program(ASKED), folder, modules(folder, texts=texts).values()))
 
@@ -70,7 +72,8 @@ def test_other_options_of_the_compiler_make_modules_that_run_alike(folder):
 def test_a_part_that_is_not_repaired_is_refused(folder):
     sources = modules(folder, repaired=False)
     status, _, notes = program.Program(ASKED).call("module", sources["numbers"], os.path.join(folder, "numbers.mod"))
-    want((status, notes[:15], os.path.exists(os.path.join(folder, "numbers.mod"))), (1, "broken trigger ", False), "module")
+    want((status, notes[:15], os.path.exists(os.path.join(folder, "numbers.mod"))), (1, "broken trigger ", False),
+         "module")
 
 
 # Each access by a lower half, and names of each kind. The data are `two` and `far`, and the symbol of .comm.
@@ -98,9 +101,11 @@ two:\t.quad far, other+8
 \t.local far
 \t.comm far,16,8
 """
-MADE = """.code|f:|g:|m.L3:|ldah $1,%hi(m.two)($31)|lda $2,%lo(m.two)($1)|ldq $2,0($2)|lda $3,%lo(m.two)($1)|ldq $3,8($3)
+MADE = """.code|f:|g:|m.L3:|ldah $1,%hi(m.two)($31)|lda $2,%lo(m.two)($1)|ldq $2,0($2)|lda $3,%lo(m.two)($1)
+ldq $3,8($3)
 lda $4,%lo(m.two)($1)|lda $4,8($4)|lda $28,%lo(m.two)($1)|stq $2,8($28)|ldah $27,%hi(other)($31)|lda $27,%lo(other)($27)
-jsr $26,($27),0|bsr $26,f|beq $2,m.L3|ldah $5,%hi(m.far)($31)|lda $5,%lo(m.far)($5)|ldq $5,0($5)|m.1_1:|br $31,m.1_1|.data
+jsr $26,($27),0|bsr $26,f|beq $2,m.L3|ldah $5,%hi(m.far)($31)|lda $5,%lo(m.far)($5)|ldq $5,0($5)|m.1_1:|br $31,m.1_1
+.data
 .align 3|m.two:|.quad m.far,other+8|.align 3|m.far:|.zero 16|.align 4""".replace("\n", "|").split("|")
 
 
@@ -119,10 +124,13 @@ def test_the_source_of_a_module_is_as_modules_want_it(folder):
 
 def test_what_a_module_cannot_be_is_refused(folder):
     path, out = os.path.join(folder, "a.s"), os.path.join(folder, "a.as")
-    halves = "\tldah $1,x($29) !gprelhigh\n\tldah $2,x+9000($29) !gprelhigh\n\tldq $3,x+9000($2) !gprellow\n\t.data\nx:\t.zero 9008\n"
+    halves = ("\tldah $1,x($29) !gprelhigh\n\tldah $2,x+9000($29) !gprelhigh\n\tldq $3,x+9000($2) "
+              "!gprellow\n\t.data\nx:\t.zero 9008\n")
     cases = [(halves, "may be another one after a link"), ("\tctpop $1,$2\n", "a module is of level 1"),
-             ("\tbr $31,$nowhere\n", "nothing defines $nowhere"), ("\t.globl a$b\na$b:\tnop\n", "a$b is a name for other modules"),
-             ("\tldah $1,x($29) !gprelhigh\n\tstq $28,x($1) !gprellow\n\t.data\nx:\t.quad 0\n", "compile with -ffixed-28")]
+             ("\tbr $31,$nowhere\n", "nothing defines $nowhere"),
+             ("\t.globl a$b\na$b:\tnop\n", "a$b is a name for other modules"),
+             ("\tldah $1,x($29) !gprelhigh\n\tstq $28,x($1) !gprellow\n\t.data\nx:\t.quad 0\n",
+              "compile with -ffixed-28")]
     for text, said in cases:
         with open(path, "w", encoding="ascii") as file:
             file.write("\t.text\n" + text)
@@ -135,7 +143,8 @@ def test_what_a_module_cannot_be_is_refused(folder):
 
 def test_what_a_compiler_calls_by_itself_is_told_with_its_remedy(folder):
     path = os.path.join(folder, "a.s")
-    for name, said in (("__divq", "companions/divide.s"), ("__remlu", "companions/divide.s"), ("memcpy", "gcc calls it")):
+    for name, said in (("__divq", "companions/divide.s"), ("__remlu", "companions/divide.s"),
+                       ("memcpy", "gcc calls it")):
         with open(path, "w", encoding="ascii") as file:
             file.write(f"\t.text\n\t.globl _start\n_start:\tjsr $26,{name}\n")
         _, notes = companion("gas2source", path, status=1)

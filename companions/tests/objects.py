@@ -1,4 +1,5 @@
-"""elf2image --functions: objects, archives, all broken places, addresses as it writes them, and many functions by few calls."""
+"""elf2image --functions: objects, archives, all broken places, addresses as it writes them, and many functions by few
+calls."""
 import os
 import shutil
 import struct
@@ -9,7 +10,8 @@ from .helpers import ASKED, Lacking, companion, data, needs_program, read, want,
 
 AWAY = 0x120000000
 # `addq/v $1,$2,$1`, `trapb`, `ret`, a word of floating point, `addq/v $1,$2,$3`, `nop`, and `ldq $4,0($3)`.
-LOST, TRAPB, RET, FLOAT, SUM, NOP, LOAD = 0x40220C01, 0x63FF0000, 0x6BFA8001, 0x5FFF040B, 0x40220C03, 0x47FF041F, 0xA4830000
+LOST, TRAPB, RET, FLOAT, SUM, NOP, LOAD = (0x40220C01, 0x63FF0000, 0x6BFA8001, 0x5FFF040B, 0x40220C03, 0x47FF041F,
+                                           0xA4830000)
 OBJECT = """\t.set noat
 \t.set noreorder
 \t.text
@@ -54,13 +56,15 @@ def written_elf(path, functions, base=AWAY):
 
 @needs_program
 def test_objects_and_archives_are_judged_by_name(folder):
-    text, made, library, out = (os.path.join(folder, name) for name in ("a.s", "a-part-with-a-long-name.o", "l.a", "a.img"))
+    text, made, library, out = (os.path.join(folder, name)
+                                for name in ("a.s", "a-part-with-a-long-name.o", "l.a", "a.img"))
     write(text, OBJECT.encode())
     subprocess.run([tool("alpha-linux-gnu-as"), text, "-o", made], check=True)
     write(os.path.join(folder, "note"), b"no object\n")
     subprocess.run([tool("alpha-linux-gnu-ar"), "rc", library, made, os.path.join(folder, "note")], check=True)
     wanted = ["0000000000000000 00000008 {}f: broken trigger 0000000000000000 at 0000000000000000 condition C2",
-              "0000000000000008 00000014 {}g: no verdict: 0000000000000010 is b4bd0000: stq behind a load by the same register, and the "
+              "0000000000000008 00000014 {}g: no verdict: 0000000000000010 is b4bd0000: stq behind a load by the same "
+              "register, and the "
               "linker makes one's distance, in the shadow of 0000000000000008",
               "0000000000000020 00000014 {}h: accepted"]
     last = " symbols: 1 accepted, 1 broken, {} without a verdict; no /V word in 0"
@@ -69,7 +73,8 @@ def test_objects_and_archives_are_judged_by_name(folder):
     want(companion("elf2image", "--functions", library, status=3)[0].splitlines(),
          [line.format(f"{os.path.basename(made)}:") for line in wanted] +
          [f"{0:016x} {0:08x} note: no verdict: {library}(note): no ELF file", "4" + last.format(2)], "an archive")
-    for path, said in ((made, "it is an object file, of which --functions"), (library, "an archive of objects, of which --functions")):
+    for path, said in ((made, "it is an object file, of which --functions"),
+                       (library, "an archive of objects, of which --functions")):
         want(said in companion("elf2image", path, out, status=1)[1], True, path)
     write(library, read(library, "rb")[:-200] + b"x" * 60)
     companion("elf2image", "--functions", library, status=1)
@@ -82,18 +87,21 @@ def test_all_broken_places_of_a_function_with_other_words_are_named(folder):
     written_elf(path, [("f", [SUM, FLOAT, TRAPB, LOST, TRAPB, FLOAT, SUM, LOAD, RET]), ("g", [SUM, TRAPB, FLOAT, RET])])
     out, _ = companion("elf2image", "--functions", "--all", path, status=3)
     want(out.splitlines(), [
-        f"{AWAY:016x} 00000024 f: broken trigger {AWAY + 12:016x} at {AWAY + 12:016x} condition C2; 2 words outside the table",
+        f"{AWAY:016x} 00000024 f: broken trigger {AWAY + 12:016x} at {AWAY + 12:016x} condition C2; 2 words outside "
+        f"the table",
         f"  no verdict of trigger {AWAY:016x}: {AWAY + 4:016x} is 5fff040b: floating point, opcode 17",
         f"  broken trigger {AWAY + 12:016x} at {AWAY + 12:016x} condition C2",
         f"  broken trigger {AWAY + 24:016x} at {AWAY + 28:016x} condition C4",
-        f"{AWAY + 36:016x} 00000010 g: accepted but for words in no shadow: {AWAY + 44:016x} is 5fff040b: floating point, opcode 17",
+        f"{AWAY + 36:016x} 00000010 g: accepted but for words in no shadow: {AWAY + 44:016x} is 5fff040b: floating "
+        f"point, opcode 17",
         "2 symbols: 1 accepted, 1 broken, 0 without a verdict; no /V word in 0"], "lines")
 
 
 @needs_program
 def test_an_address_is_taken_as_it_is_written(folder):
     out = os.path.join(folder, "a.img")
-    line = next(line for line in companion("elf2image", "--functions", data("sort.elf"), status=3)[0].splitlines() if " print: " in line)
+    line = next(line for line in companion("elf2image", "--functions", data("sort.elf"), status=3)[0].splitlines()
+                if " print: " in line)
     companion("elf2image", "--function", line.split()[0], data("sort.elf"), out)
     by_address = read(out, "rb")
     for name in ("print", "0x" + line.split()[0].lstrip("0")):
@@ -106,7 +114,8 @@ def test_an_address_is_taken_as_it_is_written(folder):
 def test_many_functions_are_judged_by_few_calls(folder):
     """As each is judged alone, one that ends within a shadow among them; and the calls are counted."""
     asked, calls = program.Program(ASKED), []
-    rows = [[SUM, NOP, TRAPB, RET]] * 40 + [[LOST, TRAPB, RET], [SUM, NOP], [SUM, LOAD, TRAPB, RET]] + [[SUM, TRAPB, RET]] * 40
+    rows = ([[SUM, NOP, TRAPB, RET]] * 40 + [[LOST, TRAPB, RET], [SUM, NOP], [SUM, LOAD, TRAPB, RET]]
+            + [[SUM, TRAPB, RET]] * 40)
     alone = {}
     with program.Scratch() as scratch:
         for words in rows[40:43]:

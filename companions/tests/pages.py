@@ -15,7 +15,8 @@ def companions():
 
 
 def test_each_companion_has_help_and_refuses_bad_words(_):
-    want({"elf2image", "gas2source", "allbroken", "shadowmap", "where", "shadowfix"} - set(companions()), set(), "companions")
+    want({"elf2image", "gas2source", "allbroken", "shadowmap", "where", "shadowfix"} - set(companions()), set(),
+         "companions")
     for name in companions():
         out, _ = companion(name, "--help")
         want("usage: " + name in out, True, name)
@@ -92,7 +93,8 @@ def test_the_run_in_a_build_fails_where_a_place_is_broken(folder):
 
 @needs_program
 def test_what_the_compiler_made_goes_the_way_of_the_page(folder):
-    """The same without a compiler, but for the blocks that need its other tools, and the last, in which programs are refused."""
+    """The same without a compiler, but for the blocks that need its other tools, and the last, in which programs are
+    refused."""
     path = with_stand_in(folder)
     runnable = [block for block in blocks("docs/from-a-compiler.md") if not re.search(r"addr2line|half\.c", block)]
     runs_as_shown(folder, "docs/from-a-compiler.md", runnable, PATH=path)

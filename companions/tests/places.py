@@ -16,7 +16,8 @@ def test_shadowmap_draws(folder):
     drawn = out.split("\n")
     want(drawn[:2], ["ten.img: 23 words, 13 /V words, 13 of them broken",
                      "broken trigger 0000000000010000 at 0000000000010030 condition C2"], "head")
-    want(drawn[15], "   10030 XXXXXXXXXXXX  addq/v $16,$17,$16       C2 of 10000, C2 of 10004, C2 of 10008, C2 of 1000c, "
+    want(drawn[15],
+         "   10030 XXXXXXXXXXXX  addq/v $16,$17,$16       C2 of 10000, C2 of 10004, C2 of 10008, C2 of 1000c, "
          "C2 of 10010, C2 of 10014, and of 7 more  +1 not drawn", "row")
     want("... 7 words in no shadow" in out, True, "fold")
     page, _ = companion("shadowmap", path, "--html")
@@ -38,8 +39,10 @@ def test_lanes_are_free_again_behind_a_shadow(_):
 def test_a_source_is_laid_out(folder):
     path = os.path.join(folder, "a.as")
     with open(path, "w", encoding="ascii") as file:
-        file.write("\t.entry s\n\t.data\na:\t.ascii \"\\x41b,\\n\\\"#\"  # x\nb: .byte 010,2\n.align 3\nc: .zero 010\nd:\n"
+        file.write("\t.entry s\n\t.data\na:\t.ascii \"\\x41b,\\n\\\"#\"  # x\nb: .byte 010,2\n.align 3\nc: .zero "
+                   "010\nd:\n"
                    "\t.code\ns: nop\n# t.c:1\nt:\tbr s\t# t.c:7 t.x:9\n")
     out, _ = companion("where", "--source", path, "10000000", "10000006", "10000008", "10000012", "10004", "20000")
     want(out.split("\n")[:6], ["0000000010000000 a", "0000000010000006 b", "0000000010000008 c", "0000000010000012 d",
-                               "0000000000010004 t, a.as:11 (t.c:7 t.x:9): br s", "0000000000020000 nothing is known of it"], "where")
+                               "0000000000010004 t, a.as:11 (t.c:7 t.x:9): br s",
+                               "0000000000020000 nothing is known of it"], "where")

@@ -7,16 +7,19 @@ import sys
 from .emulator import FOLLOW, RECORD, SUITE, WRONG, against, changed, emulator
 from .helpers import TOP, want, write
 
-# What a recorded run has wrong, the right text of `emulate` and the wrong one, the files, and what is told. Each of the journals
-# is one of a run.
+# What a recorded run has wrong, the right text of `emulate` and the wrong one, the files, and what is told. Each of the
+# journals is one of a run.
 OTHER_RUNS = [
-    ("it ends early", "(steps or m.waited is not None)", "(steps > 99_990 or m.waited is not None)", "/late-orders.wrap",
+    ("it ends early", "(steps or m.waited is not None)", "(steps > 99_990 or m.waited is not None)",
+     "/late-orders.wrap",
      "late-orders by wrap with seed 1: the journal has no end, and 10 of 100000 units"),
-    ("it is by another completion", "machine.Machine(whole, options.complete,", 'machine.Machine(whole, "wrap",', "/late-orders.stop",
+    ("it is by another completion", "machine.Machine(whole, options.complete,", 'machine.Machine(whole, "wrap",',
+     "/late-orders.stop",
      "late-orders by stop with seed 1: the journal is of a run by wrap"),
     ("it is over another input", "sys.stdin.buffer.read())", "sys.stdin.buffer.read()[8:])", "/late-loop.stop",
      "late-loop by stop with seed 1: the journal has 0 bytes of another output than the run without late traps"),
-    ("it has another end", "m.end or (", "(\"fetch\", m.end[1], 0) if m.end[0] == \"signal\" else m.end or (", "/end-bpt",
+    ("it has another end", "m.end or (", "(\"fetch\", m.end[1], 0) if m.end[0] == \"signal\" else m.end or (",
+     "/end-bpt",
      "end-bpt by wrap with seed 1: the journal is refused: norun kind 3 at 0"),
     ("its status is always 0", "    return status\n\n\ndef late", "    return DONE\n\n\ndef late", "/end-bpt",
      "end-bpt by wrap with seed 1: its status is 0 behind `signal 0 at 0000000000010008`, and 5 is wanted"),
@@ -26,14 +29,17 @@ OTHER_RUNS = [
 def test_a_recorded_run_goes_to_its_end(folder):
     for number, (what, right, wrong, only, wanted) in enumerate(OTHER_RUNS):
         made = emulator(changed(os.path.join(folder, str(number)), what, "emulate", right, wrong))
-        status, said = against("--record", made + RECORD, "--judge", emulator() + FOLLOW, "--seeds", "1", "--only", only)
+        status, said = against("--record", made + RECORD, "--judge", emulator() + FOLLOW, "--seeds", "1", "--only",
+                               only)
         want((status, said.splitlines()[0]), (1, wanted), what)
 
 
 def test_a_judge_may_not_accept_what_is_no_journal(_):
-    status, said = against("--record", f"{sys.executable} -c 'import sys; open(sys.argv[1], \"w\").write(\"hello\")' {{journal}}",
+    status, said = against("--record",
+                           f"{sys.executable} -c 'import sys; open(sys.argv[1], \"w\").write(\"hello\")' {{journal}}",
                            "--judge", "true", "--seeds", "1", "--only", "/end-bpt")
-    want((status, said.splitlines()[0]), (1, "end-bpt by wrap with seed 1: the judge accepts it, and it is no journal (docs/journals.md)"))
+    want((status, said.splitlines()[0]),
+         (1, "end-bpt by wrap with seed 1: the judge accepts it, and it is no journal (docs/journals.md)"))
 
 
 def test_runs_without_late_traps_are_told(folder):
@@ -53,7 +59,8 @@ def without_judge(folder, *parts):
     for name in os.listdir(SUITE):
         if os.path.isfile(os.path.join(SUITE, name)):
             shutil.copy(os.path.join(SUITE, name), copy)
-    done = subprocess.run([sys.executable, os.path.join(copy, "run"), "--record", "false", "--only", "no such file"], capture_output=True,
+    done = subprocess.run([sys.executable, os.path.join(copy, "run"), "--record", "false", "--only", "no such file"],
+                          capture_output=True,
                           text=True, check=False, cwd=TOP)
     want(done.returncode, 2, done.stderr)
     return done.stderr

@@ -71,13 +71,17 @@ def added_lines(old, new):
 def test_shadowfix_repairs_and_says_what_it_cannot(folder):
     path = os.path.join(folder, "a.s")
     cases = [("a:\taddqv $1,$2,$1; nop # x\n", "a:\taddqv $1,$2,$28\n\ttrapb\n\tmov $28,$1\n\tnop # x\n"),
-             ("\taddq/v $1,$2,$3\n", "\taddq/v $1,$2,$3\n\ttrapb\n"), ("\taddq/v $1,$2,$3\nb:\ttrapb\n", "\taddq/v $1,$2,$3\nb:\ttrapb\n"),
+             ("\taddq/v $1,$2,$3\n", "\taddq/v $1,$2,$3\n\ttrapb\n"),
+             ("\taddq/v $1,$2,$3\nb:\ttrapb\n", "\taddq/v $1,$2,$3\nb:\ttrapb\n"),
              ("\tsubqv $1,4\r\n", "\tsubqv $1,4,$28\r\n\ttrapb\r\n\tmov $28,$1\r\n"),
-             ("\tmullv $1,$2,$31\n", "\tmullv $1,$2,$28\n\ttrapb\n"), ("\tnegq/v $1,$1\n", "\tnegq/v $1,$28\n\ttrapb\n\tmov $28,$1\n"),
+             ("\tmullv $1,$2,$31\n", "\tmullv $1,$2,$28\n\ttrapb\n"),
+             ("\tnegq/v $1,$1\n", "\tnegq/v $1,$28\n\ttrapb\n\tmov $28,$1\n"),
              ("# addqv $1,$1,$1\n", "# addqv $1,$1,$1\n"), ("\taddlv $31,$31,$4\n", "\taddlv $31,$31,$4\n\ttrapb\n")]
     cases = [(f"{text}\tret", f"{wanted}\tret") for text, wanted in cases]
     # Of what runs off its end everything may be read, so a register is kept in the stack.
-    cases.append(("\tnegq/v $1,$1", "\tlda $30,-16($30)\n\tstq $28,0($30)\n\tnegq/v $1,$28\n\ttrapb\n\tmov $28,$1\n\tldq $28,0($30)\n\tlda $30,16($30)"))
+    cases.append(("\tnegq/v $1,$1",
+                  "\tlda $30,-16($30)\n\tstq $28,0($30)\n\tnegq/v $1,$28\n\ttrapb\n\tmov $28,$1\n\tldq "
+                  "$28,0($30)\n\tlda $30,16($30)"))
     for text, wanted in cases:
         with open(path, "w", encoding="ascii", newline="") as file:
             file.write(text)

@@ -7,8 +7,8 @@ import shutil
 from parts import module, program, shadows
 from .helpers import ASKED, DATA, TOP, companion, needs_program, read, want, write
 
-# A source with a shadow broken behind its trigger, by `ldq` (C4), and one broken at its own place (C2). Its comments name lines of a
-# text and of a C program.
+# A source with a shadow broken behind its trigger, by `ldq` (C4), and one broken at its own place (C2). Its comments
+# name lines of a text and of a C program.
 SOURCE = """\t.entry f
 \t.code
 f:\taddq/v $1,$2,$3\t# a.s:3 a.c:7
@@ -19,7 +19,9 @@ f:\taddq/v $1,$2,$3\t# a.s:3 a.c:7
 \tret
 """
 TEXT = "\t.text\n\t.globl f\nf:\taddqv $1,$2,$3\n  ldq $4,0($3)\n\ttrapb\n\t\taddqv $1,$2,$1\n"
-PLACES = [("a.s", 4, 3, "0000000000010004", "0000000000010000", "C4"), ("a.s", 6, 3, "000000000001000c", "000000000001000c", "C2")]
+LEVELS = ("none", "note", "warning", "error")
+PLACES = [("a.s", 4, 3, "0000000000010004", "0000000000010000", "C4"),
+          ("a.s", 6, 3, "000000000001000c", "000000000001000c", "C2")]
 
 
 def files_in(folder):
@@ -34,7 +36,8 @@ def test_json_has_an_object_for_each_broken_place(folder):
     path = files_in(folder)
     for name, status in (("allbroken", 3), ("shadowmap", 0)):
         found = json.loads(companion(name, "--json", path, status=status)[0])
-        want([(os.path.basename(one["file"]), one["line"], one["column"], one["place"], one["trigger"], one["condition"]) for one in found],
+        want([(os.path.basename(one["file"]), one["line"], one["column"], one["place"], one["trigger"],
+               one["condition"]) for one in found],
              PLACES, name)
         want([(one["instruction"], one["trigger_line"], one["function"]) for one in found],
              [("ldq $4,0($3)", 3, "f+0x4"), ("addq/v $1,$2,$1", 6, "f+0xc")], name)
@@ -47,7 +50,8 @@ def test_json_has_an_object_for_each_broken_place(folder):
 
 def faults_of_sarif(log):
     """Where a log breaks the rules of SARIF 2.1.0: what it must have, by its schema."""
-    if log.get("version") != "2.1.0" or not log.get("$schema", "").endswith("sarif-2.1.0.json") or not isinstance(log.get("runs"), list):
+    if (log.get("version") != "2.1.0" or not log.get("$schema", "").endswith("sarif-2.1.0.json")
+        or not isinstance(log.get("runs"), list)):
         yield "version, $schema or runs"
     for run in log["runs"]:
         driver = run["tool"]["driver"]
@@ -58,8 +62,8 @@ def faults_of_sarif(log):
             if not rule["id"] or not rule["help"]["text"] or not rule["shortDescription"]["text"]:
                 yield f"the rule {rule['id']}"
         for result in run["results"]:
-            if rules[result["ruleIndex"]]["id"] != result["ruleId"] or not result["message"]["text"] or result["level"] not in (
-                    "none", "note", "warning", "error"):
+            is_named = rules[result["ruleIndex"]]["id"] == result["ruleId"]
+            if not is_named or not result["message"]["text"] or result["level"] not in LEVELS:
                 yield f"the result {result['message']}"
             if not result["locations"]:
                 yield "a result without a location"
@@ -69,7 +73,8 @@ def faults_of_sarif(log):
             for one in [*result["locations"], *result["relatedLocations"]]:
                 where = one["physicalLocation"]
                 uri, region = where["artifactLocation"]["uri"], where["region"]
-                if not re.fullmatch(r"(file:///)?[\w./~%+-]+", uri) or min(region["startLine"], region["startColumn"]) < 1:
+                if (not re.fullmatch(r"(file:///)?[\w./~%+-]+", uri)
+                    or min(region["startLine"], region["startColumn"]) < 1):
                     yield f"{uri} {region}"
 
 
@@ -80,17 +85,20 @@ def test_sarif_keeps_the_rules_of_its_schema(folder):
     for words in ([path], ["--source", path, image], [image]):
         log = json.loads(companion("allbroken", "--sarif", *words, status=3)[0])
         want(list(faults_of_sarif(log)), [], words)
-        want([rule["id"] for rule in log["runs"][0]["tool"]["driver"]["rules"]], [f"C{n}" for n in range(1, 10)], "rules")
+        want([rule["id"] for rule in log["runs"][0]["tool"]["driver"]["rules"]], [f"C{n}" for n in range(1, 10)],
+             "rules")
         results = log["runs"][0]["results"]
         want([one["ruleId"] for one in results], ["C4", "C2"], words)
         first = results[0]["locations"][0]["physicalLocation"]
         if words != [image]:
-            want((first["artifactLocation"]["uri"].endswith("/a.s"), first["region"]), (True, {"startLine": 4, "startColumn": 3}), words)
+            want((first["artifactLocation"]["uri"].endswith("/a.s"), first["region"]),
+                 (True, {"startLine": 4, "startColumn": 3}), words)
             trigger = results[0]["relatedLocations"][0]
             want((trigger["message"]["text"], trigger["physicalLocation"]["region"]), ("the trigger, `addq/v $1,$2,$3`",
                  {"startLine": 3, "startColumn": 4}), "the trigger")
         else:
-            want((first["artifactLocation"]["uri"].endswith("/a%20b.img"), first["address"]["absoluteAddress"]), (True, 0x10004), words)
+            want((first["artifactLocation"]["uri"].endswith("/a%20b.img"), first["address"]["absoluteAddress"]),
+                 (True, 0x10004), words)
     out = os.path.join(folder, "a.sarif")
     companion("allbroken", "--sarif", "-o", out, path, status=3)
     want(list(faults_of_sarif(json.loads(read(out)))), [], "a file")
@@ -100,7 +108,9 @@ def test_sarif_keeps_the_rules_of_its_schema(folder):
 def test_each_condition_has_a_rule_and_a_remedy(_):
     from parts import remedies  # it reads docs/trap-shadows.md
     for condition in shadows.NAMES:
-        want([bool(text) for text in (*remedies.help_of(condition), remedies.remedy(condition, False), remedies.remedy(condition, True))],
+        want([bool(text)
+              for text in (*remedies.help_of(condition), remedies.remedy(condition, False),
+                           remedies.remedy(condition, True))],
              [True] * 4, condition)
 
 
@@ -108,14 +118,17 @@ def test_each_condition_has_a_rule_and_a_remedy(_):
 def test_a_module_is_seen_whether_it_is_accepted_or_refused(folder):
     """The second part of the program of three parts, as gcc made it and as shadowfix repairs it."""
     asked = program.Program(ASKED)
-    text, source, kept = os.path.join(DATA, "three", "numbers.s"), os.path.join(folder, "n.as"), os.path.join(folder, "n.mod")
+    text, source, kept = (os.path.join(DATA, "three", "numbers.s"), os.path.join(folder, "n.as"),
+                          os.path.join(folder, "n.mod"))
     shutil.copy(text, os.path.join(folder, "numbers.s"))
     companion("gas2source", "--module", text, "-o", source)
     said = program.BROKEN.search(asked.call("module", source, kept)[2])
     found = json.loads(companion("allbroken", "--json", source, status=3)[0])
-    want((found[0]["trigger"], found[0]["place"], found[0]["condition"]), (said[1], said[2], f"C{said[3]}"), "the first, as `module` has it")
+    want((found[0]["trigger"], found[0]["place"], found[0]["condition"]), (said[1], said[2], f"C{said[3]}"),
+         "the first, as `module` has it")
     lines = read(text).split("\n")
-    want([lines[one["line"] - 1].split()[0] for one in found], ["addqv", "addqv", "mulqv"], "lines of the compiler's text")
+    want([lines[one["line"] - 1].split()[0] for one in found], ["addqv", "addqv", "mulqv"],
+         "lines of the compiler's text")
     want("lda $28,%lo(numbers.many)($3)" in companion("shadowmap", source)[0], True, "a word that a link completes")
     fixed = os.path.join(folder, "fixed.s")
     companion("shadowfix", text, "-o", fixed)
@@ -136,7 +149,8 @@ def test_a_module_is_seen_whether_it_is_accepted_or_refused(folder):
 @needs_program
 def test_a_source_that_the_program_refuses_is_refused(folder):
     path = os.path.join(folder, "a.as")
-    for text, said in (("\t.code\n\tfoo $1\n", "isn't of the source language"), ("\t.code\n\taddq/v $1,$2\n", "source kind 1"),
+    for text, said in (("\t.code\n\tfoo $1\n", "isn't of the source language"),
+                       ("\t.code\n\taddq/v $1,$2\n", "source kind 1"),
                        ("\t.entry f\n\t.code\nf:\tldq $1,99999($2)\n", "source kind 1")):
         write(path, text.encode())
         for name in ("allbroken", "shadowmap"):

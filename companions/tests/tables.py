@@ -19,7 +19,8 @@ def test_the_table_has_the_words_of_gnu_as(_):
 def test_the_table_has_the_words_of_the_program(folder):
     chosen = random.Random(41)
     words = [chosen.getrandbits(32) for _ in range(3_000)]
-    words += [opcode << 26 | 31 << 21 | chosen.getrandbits(21) & 0x1FE0FFF for opcode in (0x11, 0x18, 0x1C) for _ in range(300)]
+    words += [opcode << 26 | 31 << 21 | chosen.getrandbits(21) & 0x1FE0FFF for opcode in (0x11, 0x18, 0x1C)
+              for _ in range(300)]
     words += [0x60000000 | function for function in (0, 0x400, 0x4000, 0x4400)] + list(table.PAL) + [0x85, 0xFFFF]
     asked, path = program.Program(ASKED), os.path.join(folder, "a.img")
     good = [word for word in words if table.insn_of(word)]
@@ -51,5 +52,6 @@ def test_the_program_and_the_model_find_the_same_broken_triggers(folder):
                   if (shadow := shadows.Shadow(code, trigger)).broken]
         out, _ = companion("allbroken", path, status=3)
         found = re.findall(r"^broken trigger (\S+) at (\S+) condition C(\d)", out, re.M)
-        want([((int(a, 16) - 0x10000) // 4, (int(b, 16) - 0x10000) // 4, int(c)) for a, b, c in found], wanted, "broken")
+        want([((int(a, 16) - 0x10000) // 4, (int(b, 16) - 0x10000) // 4, int(c)) for a, b, c in found], wanted,
+             "broken")
         companion("shadowmap", path)

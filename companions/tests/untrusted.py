@@ -16,7 +16,8 @@ MEGABYTE = 1 << 20
 
 
 def written_elf(code=BROKEN, symbols=((AWAY, "f", 8),), base=AWAY):
-    return written.Written([written.Part(".text", written.READ | written.EXECUTE, base, code, len(code))], base, list(symbols)).spelled()
+    return written.Written([written.Part(".text", written.READ | written.EXECUTE, base, code, len(code))], base,
+                           list(symbols)).spelled()
 
 
 def header_of(content, name):
@@ -28,8 +29,8 @@ def header_of(content, name):
                 if content[text + struct.unpack_from("<I", content, at)[0]:].startswith(name + b"\0"))
 
 
-# Calls a companion and says what memory it took. What a process is said to take counts from where it was forked, so it is
-# called by a small one.
+# Calls a companion and says what memory it took. What a process is said to take counts from where it was forked, so it
+# is called by a small one.
 CALLS = """import resource, subprocess, sys
 status = subprocess.call(sys.argv[2:])
 with open(sys.argv[1], "w") as taken:
@@ -40,7 +41,8 @@ sys.exit(status)"""
 def measured(name, *words):
     """The status of a companion, its output, its notes, and the kilobytes of memory that it took."""
     with tempfile.NamedTemporaryFile("r") as taken:
-        call = subprocess.run([sys.executable, "-c", CALLS, taken.name, sys.executable, os.path.join(HERE, name), *words],
+        call = subprocess.run([sys.executable, "-c", CALLS, taken.name, sys.executable, os.path.join(HERE, name),
+                               *words],
                               capture_output=True, env=os.environ | {"ALPHA": ASKED})
         out, notes = (text.decode("utf-8", "replace") for text in (call.stdout, call.stderr))
         return call.returncode, out, notes, int(taken.read())
@@ -49,7 +51,8 @@ def measured(name, *words):
 def refused_in_one_line(name, *words):
     """The line of a refusal, for which no more than 200 MB may be taken."""
     status, out, notes, kilobytes = measured(name, *words)
-    want((status, out, notes.count("\n"), "Traceback" in notes), (1, "", 1, False), f"{name} {' '.join(words)}: {notes[-300:]}")
+    want((status, out, notes.count("\n"), "Traceback" in notes), (1, "", 1, False),
+         f"{name} {' '.join(words)}: {notes[-300:]}")
     want(kilobytes < 200 << 10, True, f"{kilobytes} kB of memory for {name} {' '.join(words)}")
     return notes
 
@@ -132,7 +135,8 @@ def test_words_loaded_as_code_that_no_section_has_are_refused_or_said(folder):
 def test_two_parts_of_memory_in_one_page_are_refused(folder):
     """Linux maps whole pages, so the second part would hide the first one's words."""
     path, out, base = os.path.join(folder, "a.elf"), os.path.join(folder, "a.img"), 0x12000
-    content = bytearray(written.Written([written.Part(".text", 5, base, WHOLE, 8), written.Part(".data", 6, base + 0x2000, BROKEN, 8)],
+    content = bytearray(written.Written([written.Part(".text", 5, base, WHOLE, 8),
+                                         written.Part(".data", 6, base + 0x2000, BROKEN, 8)],
                                         base, []).spelled())
     data_at = header_of(content, b".data")
     moved = base + 0x10
@@ -147,7 +151,8 @@ def test_two_parts_of_memory_in_one_page_are_refused(folder):
 
 @needs_program
 def test_images_come_back_from_the_files_that_image2elf_makes(folder):
-    asked, made, there, back = program.Program(ASKED), *(os.path.join(folder, name) for name in ("a.img", "a.elf", "b.img"))
+    asked, made, there, back = (program.Program(ASKED),
+                                *(os.path.join(folder, name) for name in ("a.img", "a.elf", "b.img")))
     for name in ("factorial", "segments", "cat"):
         want(asked.call("asm", os.path.join(TOP, "examples", f"{name}.s"), made), (0, b"", ""), name)
         for words in ([], ["--handler"]):
@@ -169,7 +174,8 @@ def test_sizes_that_cannot_be_are_refused_in_one_line(folder):
     path = os.path.join(folder, "a")
     whole = read(data("sum.elf"), "rb")
     symtab, text = header_of(whole, b".symtab"), header_of(whole, b".text")
-    for at, value in [(40, HUGE), (32, HUGE), (symtab + 24, HUGE), (symtab + 32, 1 << 63), (text + 24, 1 << 63), (text + 32, HUGE - 7),
+    for at, value in [(40, HUGE), (32, HUGE), (symtab + 24, HUGE), (symtab + 32, 1 << 63), (text + 24, 1 << 63),
+                      (text + 32, HUGE - 7),
                       (text + 16, HUGE - 7), (64 + 56 + 32, HUGE), (64 + 56 + 8, HUGE - 0x1FFF)]:
         write(path, with_number(whole, "<Q", at, value))
         try:
@@ -199,7 +205,8 @@ def test_a_symbol_of_impossible_size_has_no_verdict(folder):
     path = os.path.join(folder, "a")
     write(path, written_elf(BROKEN, [(AWAY, "f", 1 << 63)]))
     out, _ = companion("elf2image", "--functions", path)
-    want(out.splitlines()[0], f"{AWAY:016x} {1 << 63:08x} f: no verdict: no row of words: {1 << 63} bytes in .text", "the line")
+    want(out.splitlines()[0], f"{AWAY:016x} {1 << 63:08x} f: no verdict: no row of words: {1 << 63} bytes in .text",
+         "the line")
 
 
 @needs_program
@@ -216,7 +223,8 @@ def test_files_with_holes_are_not_read_whole(folder):
     path, out = os.path.join(folder, "a"), os.path.join(folder, "b")
     for front, words in ((b"\x7fELF", ["elf2image", path, out]), (b"\x83\x01", ["elf2image", "--functions", path]),
                          (b"!<arch>\n", ["elf2image", "--functions", path]), (b"ALPHAIM1", ["allbroken", path]),
-                         (b"ALPHAOB1", ["shadowmap", path]), (b"ALPHAJR1", ["journal", "dump", path]), (b"", ["image2elf", path, out]),
+                         (b"ALPHAOB1", ["shadowmap", path]), (b"ALPHAJR1", ["journal", "dump", path]),
+                         (b"", ["image2elf", path, out]),
                          (b"", ["where", "--map", path, "10000"]), (b"", ["gas2source", path])):
         write(path, front)
         os.truncate(path, 4 << 30)
@@ -247,7 +255,8 @@ def test_names_of_a_file_are_escaped_wherever_they_are_printed(folder):
     write(path, written_elf(BROKEN * 5, [(AWAY + 8 * n, name, 8) for n, name in enumerate(names)]))
     told, _ = companion("elf2image", "--functions", path, status=3)
     lines = told.splitlines()
-    wanted = ["ok\\x1b[2J\\x0abroken trigger 0000000000010000 at 0000000000010000 condition C1", "\\x20blank\\x20", "a\\u2028b", "a\\x85b", "ü"]
+    wanted = ["ok\\x1b[2J\\x0abroken trigger 0000000000010000 at 0000000000010000 condition C1", "\\x20blank\\x20",
+              "a\\u2028b", "a\\x85b", "ü"]
     want([line.split(" ", 2)[2].split(": broken")[0] for line in lines[:5]], wanted, "names")
     want(len(lines), 6, "lines")
     companion("elf2image", "--function", f"{AWAY:016x}", path, out, "--map", symbols)
@@ -255,7 +264,8 @@ def test_names_of_a_file_are_escaped_wherever_they_are_printed(folder):
     for words in (["where", "--map", symbols, "--image", out, "10000"], ["shadowmap", "--map", symbols, out],
                   ["allbroken", "--map", symbols, out], ["image2elf", "--map", symbols, out, path]):
         told, notes = companion(*words, status=3 if words[0] == "allbroken" else 0)
-        want(("\x1b" in told + notes, "\nbroken trigger 0000000000010000 at 0000000000010000 condition C1\n" in told), (False, False), told)
+        want(("\x1b" in told + notes, "\nbroken trigger 0000000000010000 at 0000000000010000 condition C1\n" in told),
+             (False, False), told)
     want([symbol.name for symbol in elf.Elf(path).symbols], wanted[:1], "the file again")
 
 
@@ -264,7 +274,8 @@ def test_text_from_files_is_escaped_in_refusals(folder):
     write(path, b"\t.text\n\t\x1b]0 $1\n\tldq $1,\xff\x07\n")
     _, notes = companion("gas2source", path, status=1)
     want(("\x1b" in notes, "`\\x1b]0 $1`" in notes, "\x07" in notes), (False, True, False), notes)
-    want([shown.name("a\tb "), shown.text("\udcff"), shown.name("  ")], ["a\\x09b\\x20", "\\xff", "\\x20\\x20"], "shown")
+    want([shown.name("a\tb "), shown.text("\udcff"), shown.name("  ")], ["a\\x09b\\x20", "\\xff", "\\x20\\x20"],
+         "shown")
 
 
 def test_no_more_is_read_than_a_kind_of_file_may_have(folder):

@@ -1,4 +1,5 @@
-"""Several wrong emulators in one program, which costs less than a program for each: it is the one that it is called by the name of."""
+"""Several wrong emulators in one program, which costs less than a program for each: it is the one that it is called by
+the name of."""
 import re
 
 TEXTS = re.compile(r'("(?:\\.|[^"\\])*")')
@@ -29,6 +30,8 @@ def program_of(texts):
     """The program of emulators by their names."""
     head = next(iter(texts.values())).partition(HEAD)[0] + HEAD
     bodies = [renamed(text.partition(HEAD)[2], number) for number, text in enumerate(texts.values())]
-    calls = [f'    if (!strcmp(name, "{name}"))\n        return main_{number}(count, words);\n' for number, name in enumerate(texts)]
-    return "".join([head, *bodies, "\nint main(int count, char **words)\n{\n    const char *name = strrchr(words[0], '/');\n"
+    calls = [f'    if (!strcmp(name, "{name}"))\n        return main_{number}(count, words);\n'
+             for number, name in enumerate(texts)]
+    return "".join([head, *bodies,
+                    "\nint main(int count, char **words)\n{\n    const char *name = strrchr(words[0], '/');\n"
                     "    name = name ? name + 1 : words[0];\n", *calls, "    return 2;\n}\n"])

@@ -2,24 +2,28 @@
 from . import late
 
 PER_LINE = 6
-READ = ["ldah $9,0x1000($31)", "next: lda $0,3($31)", "clr $16", "mov $9,$17", "lda $18,24($31)", "callsys", "subq $0,24,$4", "bne $4,end",
-        "ldq $1,0($9)", "ldq $2,8($9)"]
+READ = ["ldah $9,0x1000($31)", "next: lda $0,3($31)", "clr $16", "mov $9,$17", "lda $18,24($31)", "callsys",
+        "subq $0,24,$4", "bne $4,end", "ldq $1,0($9)", "ldq $2,8($9)"]
 
 
 def source(what, lines, level=1):
-    """A program that reads three quadwords, and writes what each line leaves in $3, until the input ends. `lines` has a text for
-    each, and its words."""
-    said = [f"# {what} With a, b and c of each 24 bytes of the input in $1, $2 and $3, a quadword of output for each of these lines:"]
+    """A program that reads three quadwords, and writes what each line leaves in $3, until the input ends. `lines` has a
+    text for each, and its words."""
+    said = [f"# {what} With a, b and c of each 24 bytes of the input in $1, $2 and $3, a quadword of output for each "
+            f"of these lines:"]
     texts = [text for text, _ in lines]
     said += ["# " + "; ".join(texts[n:n + PER_LINE]) for n in range(0, len(texts), PER_LINE)]
     body = []
     for number, (_, words) in enumerate(lines):
-        body += ["ldq $3,16($9)", *words, f"stq $3,{24 + 8 * number}($9)"] + (["trapb"] if any("/v" in word for word in words) else [])
+        body += (["ldq $3,16($9)", *words, f"stq $3,{24 + 8 * number}($9)"]
+                 + (["trapb"] if any("/v" in word for word in words) else []))
     size = 8 * len(lines)
-    calls = ["lda $0,4($31)", "lda $16,1($31)", "lda $17,24($9)", f"lda $18,{size}($31)", "callsys", "br next", "end: clr $16", "lda $0,1($31)", "callsys"]
+    calls = ["lda $0,4($31)", "lda $16,1($31)", "lda $17,24($9)", f"lda $18,{size}($31)", "callsys", "br next",
+             "end: clr $16", "lda $0,1($31)", "callsys"]
     head = [f"        .level {level}", "        .segment 0x10000000"] if level == 2 else ["        .data"]
     code = [word if ": " in word else f"        {word}" for word in [f"start: {READ[0]}", *READ[1:], *body, *calls]]
-    return "\n".join([*said, *head, f"        .zero {24 + size}", "        .code", *code, "        .entry start"]) + "\n"
+    return ("\n".join([*said, *head, f"        .zero {24 + size}", "        .code", *code, "        .entry start"])
+            + "\n")
 
 
 def forms(names):
@@ -30,7 +34,8 @@ def forms(names):
             continue
         unary, count = name in late.UNARY, name in ("ctpop", "ctlz", "cttz")
         lines = [f"{name} $3,$3", f"{name} $31,$3"] if unary else [f"{name} {registers},$3" for registers in
-                                                                   ("$3,$2", "$1,$3", "$3,$3", "$1,$1", "$31,$2", "$1,$31")]
+                                                                   ("$3,$2", "$1,$3", "$3,$3", "$1,$1", "$31,$2",
+                                                                    "$1,$31")]
         literals = [] if count else [f"{name} {'' if unary else '$1,'}{literal},$3" for literal in (0, 127, 128, 255)]
         for line in lines + literals:
             yield line, [line]
@@ -49,7 +54,8 @@ def branches():
 
 def addresses():
     """What LDA and LDAH give by their displacement."""
-    numbers = [0, 1, -1, 2, 4, 8, 16, 32, 64, 128, 256, 512, 1_024, 2_048, 4_096, 8_192, 16_384, 32_767, -32_768, -16_384, -2]
+    numbers = [0, 1, -1, 2, 4, 8, 16, 32, 64, 128, 256, 512, 1_024, 2_048, 4_096, 8_192, 16_384, 32_767, -32_768,
+               -16_384, -2]
     for name in ("lda", "ldah"):
         for number in numbers:
             yield f"{name} $3,{number}($1)", [f"{name} $3,{number}($1)"]
@@ -77,9 +83,12 @@ def bases():
         yield f"{name} $3,.+4", [f"{name} $3,.+4"]
         yield f"{name} $31,.+4", [f"{name} $31,.+4", "bis $31,$31,$3"]
     for name in late.JUMPS:
-        yield f"{name} $3,($5) to the next word but one", ["br $5,.+4", "lda $5,16($5)", f"{name} $3,($5)", "clr $3", "nop"]
-        yield f"{name} $3,($3) by the register that it sets", ["br $3,.+4", "lda $3,19($3)", f"{name} $3,($3)", "clr $3", "nop"]
-        yield f"{name} $31,($5),8191", ["br $5,.+4", "lda $5,16($5)", f"{name} $31,($5),8191", "clr $3", "addq $31,$3,$3"]
+        yield (f"{name} $3,($5) to the next word but one",
+               ["br $5,.+4", "lda $5,16($5)", f"{name} $3,($5)", "clr $3", "nop"])
+        yield (f"{name} $3,($3) by the register that it sets",
+               ["br $3,.+4", "lda $3,19($3)", f"{name} $3,($3)", "clr $3", "nop"])
+        yield (f"{name} $31,($5),8191",
+               ["br $5,.+4", "lda $5,16($5)", f"{name} $31,($5),8191", "clr $3", "addq $31,$3,$3"])
 
 
 def flags():
@@ -87,23 +96,29 @@ def flags():
     lines = late.with_destination()
     for name in ("stl_c", "stq_c", *late.JUMPS):
         del lines[name]
-    lines |= {name: f"{name} $1,0($9)" for name in late.STORES[:5]} | {name: f"{name} $31,.+4" for name in late.BRANCHES}
-    lines |= {name: name for name in ("mb", "wmb", "trapb", "excb", "imb", "rdunique", "wrunique", "callsys")} | {"fetch": "fetch 0($9)", "fetch_m": "fetch_m 0($9)"}
+    lines |= ({name: f"{name} $1,0($9)" for name in late.STORES[:5]}
+              | {name: f"{name} $31,.+4" for name in late.BRANCHES})
+    lines |= ({name: name for name in ("mb", "wmb", "trapb", "excb", "imb", "rdunique", "wrunique", "callsys")}
+              | {"fetch": "fetch 0($9)", "fetch_m": "fetch_m 0($9)"})
     for name, line in lines.items():
         before = ["lda $4,5($31)", "lda $6,3($31)", "mov $9,$7"] + (["lda $0,9($31)"] if name == "callsys" else [])
         if "ld" in name and name not in ("lda", "ldah"):
             line = line.replace("72($9)", "24($9)")
         yield f"stq_c behind {line}", [*before, "ldq_l $5,8($9)", line, "lda $3,7($31)", "stq_c $3,0($9)"]
-    for name, words in (("a write", ["lda $0,4($31)", "lda $16,1($31)", "clr $18"]), ("a read", ["lda $0,3($31)", "clr $16", "clr $18"]),
+    for name, words in (("a write", ["lda $0,4($31)", "lda $16,1($31)", "clr $18"]),
+                        ("a read", ["lda $0,3($31)", "clr $16", "clr $18"]),
                         ("a write elsewhere", ["lda $0,4($31)", "lda $16,2($31)"])):
         yield f"stq_c behind {name}", [*words, "ldq_l $5,8($9)", "callsys", "lda $3,7($31)", "stq_c $3,0($9)"]
     for first in ("ldl_l", "ldq_l"):
         for last in ("stl_c", "stq_c"):
             for at, other in ((0, 8), (8, 0), (0, 16), (16, 8), (0, 32)):
-                yield f"{last} of {other} behind {first} of {at}", [f"{first} $5,{at}($9)", "lda $3,7($31)", f"{last} $3,{other}($9)"]
+                yield (f"{last} of {other} behind {first} of {at}",
+                       [f"{first} $5,{at}($9)", "lda $3,7($31)", f"{last} $3,{other}($9)"])
             yield f"a second {last}", [f"{first} $5,0($9)", f"{last} $4,0($9)", "lda $3,7($31)", f"{last} $3,0($9)"]
             yield f"{last} without {first}", ["lda $3,7($31)", f"{last} $3,0($9)"]
-            yield f"{last} behind {first} and one of another block", [f"{first} $5,0($9)", f"{last} $4,32($9)", "lda $3,7($31)", f"{last} $3,0($9)"]
-            yield f"{last} of the second of two {first}", [f"{first} $5,0($9)", f"{first} $5,16($9)", "lda $3,7($31)", f"{last} $3,0($9)"]
+            yield (f"{last} behind {first} and one of another block",
+                   [f"{first} $5,0($9)", f"{last} $4,32($9)", "lda $3,7($31)", f"{last} $3,0($9)"])
+            yield (f"{last} of the second of two {first}",
+                   [f"{first} $5,0($9)", f"{first} $5,16($9)", "lda $3,7($31)", f"{last} $3,0($9)"])
     for name in ("addl/v", "subl/v", "mull/v", "addq/v", "subq/v", "mulq/v"):
         yield f"stq_c behind {name} $1,$2", ["ldq_l $5,8($9)", f"{name} $1,$2,$4", "lda $3,7($31)", "stq_c $3,0($9)"]

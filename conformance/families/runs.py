@@ -13,39 +13,50 @@ def size_of(name):
 
 def accesses():
     """Each load and store: at the ends of each region, misaligned, and at addresses of 64 bits."""
-    made = Blocks("accesses", "Each load and store at the address of $6: at both ends of each region, misaligned, and where no region is.",
-                  front=["        .segment 0x0", "        .zero 40"], back=["        .segment 0x10002000", "        .byte 1,2,3", "        .zero 10"])
+    made = Blocks("accesses",
+                  "Each load and store at the address of $6: at both ends of each region, misaligned, and where no "
+                  "region is.",
+                  front=["        .segment 0x0", "        .zero 40"],
+                  back=["        .segment 0x10002000", "        .byte 1,2,3", "        .zero 10"])
     for name in ACCESSES:
         made.add(name, [f"{name} $5,0($6)", "trapb", "ldq_u $7,0($6)", "br dump"])
         made.add(f"{name}_alone", [f"{name} $5,0($6)", "trapb", "br dump"])
     end = made.end()
-    regions = {"code": (CODE, end), "low": (0, 40), "cells": (CELLS, CELLS + 384), "odd": (CELLS + 0x2000, CELLS + 0x200D), "stack": (STACK, TOP)}
+    regions = {"code": (CODE, end), "low": (0, 40), "cells": (CELLS, CELLS + 384),
+               "odd": (CELLS + 0x2000, CELLS + 0x200D), "stack": (STACK, TOP)}
     for name in ACCESSES:
         size = size_of(name)
         for region, (first, behind) in regions.items():
             last = (behind - size) // size * size
             for how, address in {"before": first - size, "first": first, "last": last, "behind": last + size}.items():
                 label = f"{name}_alone" if region == "odd" or how in ("before", "behind") or region == "code" else name
-                made.run(f"{name}-{region}-{how}", label, f"`{name} $5,0($6)` at {address & MASK:#x}, {how} of the {region} region",
+                made.run(f"{name}-{region}-{how}", label,
+                         f"`{name} $5,0($6)` at {address & MASK:#x}, {how} of the {region} region",
                          {5: 0xF7F6F5F4F3F2F1F0, 6: address})
         for odd in range(1, size):
             for how, base in (("cells", CELLS + 72), ("nowhere", 1 << 29), ("code", CODE)):
                 if how == "cells" or odd in (1, size // 2):
-                    made.run(f"{name}-odd-{how}-{odd}", f"{name}_alone", f"`{name} $5,0($6)` at {base + odd:#x}: alignment comes first, and "
+                    made.run(f"{name}-odd-{how}-{odd}", f"{name}_alone",
+                             f"`{name} $5,0($6)` at {base + odd:#x}: alignment comes first, and "
                              "`ldq_u` and `stq_u` clear three bits", {5: 0xF7F6F5F4F3F2F1F0, 6: base + odd})
         bits = range(30, 64) if name in ("ldq", "stb") else (31, 32, 33, 47, 62, 63)
         for bit in bits:
-            made.run(f"{name}-bit-{bit}", f"{name}_alone", f"`{name} $5,0($6)` at {CELLS + 64 | 1 << bit:#x}: all 64 bits of an address count",
+            made.run(f"{name}-bit-{bit}", f"{name}_alone",
+                     f"`{name} $5,0($6)` at {CELLS + 64 | 1 << bit:#x}: all 64 bits of an address count",
                      {6: CELLS + 64 | 1 << bit})
-        made.run(f"{name}-nowhere", f"{name}_alone", f"`{name} $5,0($6)` where no region is; `ldq_u` and `stq_u` tell the address that they "
+        made.run(f"{name}-nowhere", f"{name}_alone",
+                 f"`{name} $5,0($6)` where no region is; `ldq_u` and `stq_u` tell the address that they "
                  "have cleared", {6: (1 << 29) + (7 if name.endswith("_u") else 0)})
     return made
 
 
 def displacements():
     """All 16 bits of a displacement, and addresses modulo 2^64."""
-    made = Blocks("displacements", "A segment at address 0, and displacements: each bit of one, both bounds, and sums that wrap.",
-                  front=["        .segment 0x0", "        .quad 0x0102030405060708,0x1112131415161718,0x2122232425262728", "        .zero 32760"])
+    made = Blocks("displacements",
+                  "A segment at address 0, and displacements: each bit of one, both bounds, and sums that wrap.",
+                  front=["        .segment 0x0",
+                         "        .quad 0x0102030405060708,0x1112131415161718,0x2122232425262728",
+                         "        .zero 32760"])
     for name in ACCESSES:
         size = size_of(name)
         for number in (8, -8, 32_760, -32_768, 256, -256):
@@ -68,23 +79,29 @@ def displacements():
 
 def places():
     """All 64 bits of the PC, and all 21 bits of a displacement."""
-    made = Blocks("places", "Jumps and branches out of the code: the end tells the PC, all of its bits.", code=0x20000000)
+    made = Blocks("places", "Jumps and branches out of the code: the end tells the PC, all of its bits.",
+                  code=0x20000000)
     for name in late.JUMPS:
         made.add(name, [f"{name} $5,($6)"])
         bits = range(64) if name == "jmp" else (1, 17, 32, 63)
         for bit in bits:
-            made.run(f"{name}-bit-{bit}", name, f"`{name} $5,($6)`: bit {bit} of the PC, of which 0 and 1 are cleared", {6: 1 << bit})
+            made.run(f"{name}-bit-{bit}", name, f"`{name} $5,($6)`: bit {bit} of the PC, of which 0 and 1 are cleared",
+                     {6: 1 << bit})
     for name in late.JUMPS:
         for bit in range(30, 64) if name == "jmp" else (32, 63):
-            made.run(f"{name}-over-{bit}", name, f"`{name} $5,($6)` to the address of a code word with bit {bit}, where no code is", {6: made.places["dump"] | 1 << bit})
+            made.run(f"{name}-over-{bit}", name,
+                     f"`{name} $5,($6)` to the address of a code word with bit {bit}, where no code is",
+                     {6: made.places["dump"] | 1 << bit})
     # The code has no word so far away, so that each target is the end's address.
-    words = [1 << bit for bit in range(12, 20)] + [-(1 << bit) for bit in range(12, 21)] + [(1 << 20) - 1, -4097, 0xAAAAA, -0xAAAAB]
+    words = ([1 << bit for bit in range(12, 20)] + [-(1 << bit) for bit in range(12, 21)]
+             + [(1 << 20) - 1, -4097, 0xAAAAA, -0xAAAAB])
     for name, register in [*[(name, "$31") for name in ("br", "bsr")], *[(name, "$6") for name in late.BRANCHES]]:
         taken = {"bne": 1, "blt": 1 << 63, "bgt": 1, "blbs": 1}.get(name, 0)
         for number in words if name in ("br", "beq") else words[3:5] + words[16:19]:
             label = f"{name}_{number}".replace("-", "m")
             made.add(label, [f"{name} {register},.{4 + 4 * number:+d}"])
-            made.run(f"{name}-{number}", label, f"`{name}` by {number} words: all 21 bits of a displacement count", {6: taken})
+            made.run(f"{name}-{number}", label, f"`{name}` by {number} words: all 21 bits of a displacement count",
+                     {6: taken})
         made.add(f"{name}_end", [f"{name} {register},.-{made.end() + 4 - 0x20000000}"])
         made.run(f"{name}-before", f"{name}_end", f"`{name}` to the address before the code", {6: taken})
     return made
@@ -92,7 +109,9 @@ def places():
 
 def calls():
     """System calls by registers of 64 bits."""
-    made = Blocks("calls-wide", "A system call by registers of the input: $1 is the number, $2 the descriptor, $3 the address, $4 the count.",
+    made = Blocks("calls-wide",
+                  "A system call by registers of the input: $1 is the number, $2 the descriptor, $3 the address, $4 "
+                  "the count.",
                   back=["        .segment 0x10002000", "        .byte 65,66,67", "        .zero 10"])
     made.add("call", ["mov $1,$0", "mov $2,$16", "mov $3,$17", "mov $4,$18", "lda $19,77($31)", "callsys", "br dump"])
     cell, end = CELLS + 64, made.end()
@@ -116,10 +135,13 @@ def calls():
             told[f"around-{more}-{number}"] = (number, descriptor, address, -64 + more & MASK)
         told[f"top-{number}"] = (number, descriptor, MASK - 7, 8)
         told[f"top-one-{number}"] = (number, descriptor, MASK, 1)
-        for region, (first, behind) in {"cells": (CELLS, CELLS + 384), "odd": (CELLS + 0x2000, CELLS + 0x200D), "stack": (STACK, TOP),
+        for region, (first, behind) in {"cells": (CELLS, CELLS + 384), "odd": (CELLS + 0x2000, CELLS + 0x200D),
+                                        "stack": (STACK, TOP),
                                         "code": (CODE, end)}.items():
-            for how, at, size in (("last", behind - 3, 3), ("over", behind - 3, 4), ("before", first - 1, 2), ("behind", behind, 1),
-                                  ("one", first, 1), ("none", behind, 0), ("all", first, behind - first), ("more", first, behind - first + 1)):
+            for how, at, size in (("last", behind - 3, 3), ("over", behind - 3, 4), ("before", first - 1, 2),
+                                  ("behind", behind, 1),
+                                  ("one", first, 1), ("none", behind, 0), ("all", first, behind - first),
+                                  ("more", first, behind - first + 1)):
                 if how not in ("all", "more") or region == "odd" or number == 4 and region != "stack":
                     told[f"{region}-{how}-{number}"] = (number, descriptor, at, size)
         for size in (0, 1, 2, 7, 40, 100):
@@ -131,16 +153,19 @@ def calls():
     told["order-number-none"] = (9, 0, 0, 0)
     told["order-number-range"] = (2, 0, 0, 9)
     for name, (number, descriptor, address, count) in told.items():
-        made.run(name, "call", f"the call {number:#x} with descriptor {descriptor:#x}, address {address:#x}, count {count:#x}",
+        made.run(name, "call",
+                 f"the call {number:#x} with descriptor {descriptor:#x}, address {address:#x}, count {count:#x}",
                  {1: number, 2: descriptor, 3: address, 4: count})
-        made.rows[-1] = made.rows[-1]._replace(given=made.rows[-1].given + b"The rest of the input, 40 bytes of it.!!"[:40])
+        made.rows[-1] = made.rows[-1]._replace(given=made.rows[-1].given
+                                               + b"The rest of the input, 40 bytes of it.!!"[:40])
     for value in (0, 1, 255, 1 << 32, 1 << 63, MASK):
         made.run(f"exit-value-{value:x}", "call", f"exit by {value:#x}: all 64 bits are the value", {1: 1, 2: value})
     made.add("unique", ["mov $1,$16", "wrunique", "clr $16", "rdunique", "trapb", "br dump"])
     made.run("unique", "unique", "the unique value has 64 bits", {1: 0x8877665544332211})
     made.add("first", ["rdunique", "trapb", "br dump"])
     made.run("unique-first", "first", "the unique value is 0 at the start", {})
-    made.add("kept", ["mov $1,$16", "wrunique", "lda $0,99($31)", "callsys", "clr $16", "rdunique", "mov $0,$7", "rdunique", "br dump"])
+    made.add("kept", ["mov $1,$16", "wrunique", "lda $0,99($31)", "callsys", "clr $16", "rdunique", "mov $0,$7",
+                      "rdunique", "br dump"])
     made.run("unique-kept", "kept", "a system call leaves the unique value, and so does reading it", {1: 5})
     return made
 
@@ -176,23 +201,30 @@ start:  ldah $9,0x1000($31)
 def reader_rows():
     """Reads of many bytes, and of an input that comes in pieces: where + stands the next piece is late."""
     pattern = bytes(n * 7 % 251 for n in range(160_000))
-    for name, about, *pieces in (("none", "an empty input", b""), ("small", "100 bytes in three pieces", pattern[:1], pattern[1:60], pattern[60:100]),
-                                 ("page", "4,096 bytes and one more", pattern[:4_097]), ("two", "5,000 bytes in two pieces", pattern[:2_500], pattern[2_500:5_000]),
+    for name, about, *pieces in (("none", "an empty input", b""),
+                                 ("small", "100 bytes in three pieces", pattern[:1], pattern[1:60], pattern[60:100]),
+                                 ("page", "4,096 bytes and one more", pattern[:4_097]),
+                                 ("two", "5,000 bytes in two pieces", pattern[:2_500], pattern[2_500:5_000]),
                                  ("pipe", "100,000 bytes, more than a pipe holds", pattern[:100_000]),
-                                 ("most", "just as many as are asked for", pattern[:150_000]), ("more", "more than are asked for", pattern)):
-        yield Row(f"reads-long.{name}", "run", "reads-long", "wrap", blocks.STEPS, pieces, None, about=f"a read of 150,000 bytes: {about}")
+                                 ("most", "just as many as are asked for", pattern[:150_000]),
+                                 ("more", "more than are asked for", pattern)):
+        yield Row(f"reads-long.{name}", "run", "reads-long", "wrap", blocks.STEPS, pieces, None,
+                  about=f"a read of 150,000 bytes: {about}")
 
 
 def steps():
     """How many steps are made."""
-    made = Blocks("steps", "A few steps, among them an overflow, a barrier, calls and the exit, by other numbers of steps.")
-    made.add("few", ["addq/v $1,$2,$3", "trapb", "br .+4", "lda $0,9($31)", "callsys", "stq $3,64($9)", "mov $3,$16", "lda $0,1($31)", "callsys"])
+    made = Blocks("steps",
+                  "A few steps, among them an overflow, a barrier, calls and the exit, by other numbers of steps.")
+    made.add("few", ["addq/v $1,$2,$3", "trapb", "br .+4", "lda $0,9($31)", "callsys", "stq $3,64($9)", "mov $3,$16",
+                     "lda $0,1($31)", "callsys"])
     made.add("stops", ["addq/v $1,$2,$3", "trapb"])
     made.add("faults", ["nop", "ldq $5,1($31)"])
     for number in (0, 1, 2, 6, *range(14, 26), 255, 256, 1 << 31, 1 << 32, (1 << 32) + 16, 1 << 63, MASK):
         made.run(f"few-{number}", "few", f"at most {number} steps", late.OVERFLOWS, steps=number)
     for number in (15, 16, 17):
-        made.run(f"stops-{number}", "stops", f"at most {number} steps, by `stop`: the one that ends is one of them", late.OVERFLOWS, steps=number, completion="stop")
+        made.run(f"stops-{number}", "stops", f"at most {number} steps, by `stop`: the one that ends is one of them",
+                 late.OVERFLOWS, steps=number, completion="stop")
         made.run(f"faults-{number}", "faults", f"at most {number} steps: a fault ends by one of them", {}, steps=number)
     return made
 
@@ -201,9 +233,12 @@ def overflows():
     """Every register as the destination of an overflow, by each completion, and an overflow's operands."""
     made = Blocks("overflows", "An overflow into each register.")
     for register in range(32):
-        made.add(f"to_{register}", [f"addq/v $1,$2,${register}", "trapb", *(["ldah $9,0x1000($31)"] if register == 9 else []), "br dump"])
+        made.add(f"to_{register}",
+                 [f"addq/v $1,$2,${register}", "trapb", *(["ldah $9,0x1000($31)"] if register == 9 else []), "br dump"])
         made.run(f"to-{register}", f"to_{register}", f"an overflow into ${register}, and the log", late.OVERFLOWS)
-        made.add(f"from_{register}", ["mov $1,$3", *([f"mov $1,${register}"] if register != 31 else []), f"addq/v ${register},1,$4", f"subq/v $4,${register},$5",
+        made.add(f"from_{register}",
+                 ["mov $1,$3", *([f"mov $1,${register}"] if register != 31 else []), f"addq/v ${register},1,$4",
+                  f"subq/v $4,${register},$5",
                                       *(["ldah $9,0x1000($31)"] if register == 9 else []), "trapb", "br dump"])
         made.run(f"from-{register}", f"from_{register}", f"${register} as a source", {1: blocks.MAX - 1})
     return made
@@ -211,7 +246,9 @@ def overflows():
 
 def turns():
     """The lock flag over each jump, and over each branch, taken or not."""
-    made = Blocks("locks-turns", "A jump or a branch between a locked load and its conditional store, which tells whether the flag is still set.")
+    made = Blocks("locks-turns",
+                  "A jump or a branch between a locked load and its conditional store, which tells whether the flag is "
+                  "still set.")
     for name in (*late.JUMPS, "br", "bsr", *late.BRANCHES):
         turn = f"{name} $6,($7)" if name in late.JUMPS else f"{name} $6,.+8"
         made.add(name, ["ldq_l $5,64($9)", "lda $7,16($8)", turn, "nop", "stq_c $5,64($9)", "trapb", "br dump"])

@@ -1,6 +1,6 @@
 #!/usr/bin/env python3
-"""Prints MULTIPLIER and PLACES of src/rows.rt for the names of its ROWS and OWNS: a number by which no two names have one
-slot, and the place of the name with each slot. The number that stands there is tried first.
+"""Prints MULTIPLIER and PLACES of src/rows.rt for the names of its ROWS and pseudo-operations: a number by which no two
+names have one slot, and the place of the name with each slot. The number that stands there is tried first.
 
     crates/alpha_quick/slots.py [--check]
 
@@ -28,7 +28,7 @@ def names():
     found = [(f"Op::{row}", name) for row, name in re.findall(r'^ +(\w+) b"([^"]+)" 0x', operates, re.M)]
     found += re.findall(r'^ +(\w+::\w+) b"([^"]+)"', others, re.M)
     found += [(f"modify: {row}", name) for row, name in re.findall(r'^ +(true|false) b"([^"]+)"', others, re.M)]
-    found += [(f"Own::{row}", name) for row, name in re.findall(r'^ +(\w+) b"([^"]+)" \w+,$', beside, re.M)]
+    found += [(f"PseudoOp::{row}", name) for row, name in re.findall(r'^ +(\w+) b"([^"]+)" \w+,$', beside, re.M)]
     return dict(found)
 
 
@@ -36,7 +36,7 @@ def written():
     """The rows, the number and the places, as they stand in src/rows.rt."""
     text = (CRATES / "alpha_quick" / "src" / "rows.rt").read_text()
     keyed = re.search(r"static ROWS: .*? = keyed_rows! \{(.*?)\};", text, re.S).group(1)
-    beside = re.search(r"static OWNS: .*? = \[(.*?)\];", text, re.S).group(1)
+    beside = re.search(r"static \w+: \[PseudoOp; \d+\] = \[(.*?)\];", text, re.S).group(1)
     multiplier = int(re.search(r"const MULTIPLIER: u64 = (\d+);", text).group(1))
     places = re.search(r"static PLACES: .*? = \[(.*?)\];", text, re.S).group(1)
     rows = [re.search(r"(\w+::\w+|modify: \w+)\W*$", line).group(1) for line in (keyed + beside).split(",\n")[:-1]]
@@ -58,7 +58,7 @@ def places_of(ordered, multiplier):
 def faults():
     known = names()
     rows, multiplier, places = written()
-    needed = {row: name for row, name in known.items() if len(name) <= 8 or row.startswith("Own::")}
+    needed = {row: name for row, name in known.items() if len(name) <= 8 or row.startswith("PseudoOp::")}
     yield from (f"{name} has no row" for row, name in needed.items() if row not in rows)
     yield from (f"{row} stands {times} times" for row, times in collections.Counter(rows).items() if times > 1)
     yield from (f"{row} has no name" for row in rows if row not in known)

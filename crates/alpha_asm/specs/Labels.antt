@@ -5,10 +5,10 @@ use Rattle.std.specs.List.{list_any}
 use Rattle.std.specs.Str.{bytes_eq}
 use Rattle.alpha_names.specs.Values.{value_of}
 use Rattle.alpha_asm.specs.declared.label.Labels.{Labels}
-use Rattle.alpha_asm.specs.declared.place.Spot.{Spot}
+use Rattle.alpha_asm.specs.declared.place.LabelLocation.{LabelLocation}
 
-abbrev pub spot_named : Labels → List ℕ → Option Spot
-spot_named ls name = value_of ls.spots.items ls.names name
+abbrev pub location_named : Labels → List ℕ → Option LabelLocation
+location_named ls name = value_of ls.locations.items ls.names name
 
 -- the names of the labels that are defined, each at its number
 abbrev pub label_names : Labels → List (List ℕ)

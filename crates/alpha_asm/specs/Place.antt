@@ -4,8 +4,8 @@ use Rattle.alpha_asm.specs.declared.place.Place.{Place as PlaceHere}
 use Rattle.alpha_asm.specs.Layout.{Place}
 
 -- behind so many instructions
-abbrev pub seen : ℕ → PlaceHere → Place
-seen words p = record {
+abbrev pub place_of_code : ℕ → PlaceHere → Place
+place_of_code words p = record {
   level = p.level;
   begun = p.begun;
   section = p.section;

@@ -1,5 +1,7 @@
 -- The program that items make: its instructions, its data bytes and its numbers, with the addresses of labels.
-use Rattle.std.specs.Prelude.{ℕ, ℤ, pos, negsuc, neg_ℤ, ◌+ℤ◌, ◌-ℤ◌, ◌+◌, ◌-◌, ◌*◌, ◌/◌, ◌%◌, ◌^◌, Bool, true, ◌&&◌, ◌==◌, nat_lt, nat_le, List, [], ◌∷◌, ◌++◌, drop, replicate, slice_get, Option, None, Some, is_some, is_none, if◌then◌else◌}
+use Rattle.std.specs.Prelude.{ℕ, ℤ, pos, negsuc, neg_ℤ, ◌+ℤ◌, ◌-ℤ◌, ◌+◌, ◌-◌, ◌*◌, ◌/◌, ◌%◌, ◌^◌, Bool, true, ◌&&◌}
+use Rattle.std.specs.Prelude.{◌==◌, nat_lt, nat_le, List, [], ◌∷◌, ◌++◌, drop, replicate, slice_get, Option, None, Some}
+use Rattle.std.specs.Prelude.{is_some, is_none, if◌then◌else◌}
 use Rattle.std.specs.Option.{unwrap_or, option_map, option_map_or, option_and_then}
 use Rattle.std.specs.List.{flat_map, filter_map}
 use Rattle.alpha_words.specs.declared.Level.{Level}
@@ -7,22 +9,23 @@ use Rattle.alpha_words.specs.Digits.{low_bytes}
 use Rattle.alpha_table.specs.declared.form.Form.{Form}
 use Rattle.alpha_table.specs.declared.form.Form.TheVariants.{Mem, Branch}
 use Rattle.alpha_table.specs.Decoded.{decoded}
-use Rattle.alpha_text.specs.Statements.{Said}
-use Rattle.alpha_text.specs.Reading.{LineSaid}
+use Rattle.alpha_text.specs.Statements.{Stmt}
+use Rattle.alpha_text.specs.Reading.{LineStmt}
 use Rattle.alpha_image.specs.declared.segment.Segment.{Segment}
 use Rattle.alpha_image.specs.declared.version.Version.{Version}
 use Rattle.alpha_image.specs.declared.version.Version.TheVariants.{One, Two}
 use Rattle.alpha_image.specs.Numbers.{Numbers}
 use Rattle.alpha_image.specs.Parts.{Parts}
 use Rattle.alpha_image.specs.Reading.{numbered_level}
-use Rattle.alpha_asm.specs.declared.statement.Use.{Use}
-use Rattle.alpha_asm.specs.declared.statement.Use.TheVariants as uses
+use Rattle.alpha_asm.specs.declared.statement.RelocField.{RelocField}
+use Rattle.alpha_asm.specs.declared.statement.RelocField.TheVariants as uses
 use Rattle.alpha_asm.specs.declared.patch.Displacement.{Displacement}
 use Rattle.alpha_asm.specs.declared.patch.Displacement.TheVariants.{Words, Bytes}
-use Rattle.alpha_asm.specs.declared.place.Spot.{Spot}
-use Rattle.alpha_asm.specs.declared.place.Spot.TheVariants as spots
-use Rattle.alpha_asm.specs.Statement.{Reference, Coded, coded, Cell, number, address, cells, Entry, entry_at, entry_of, entry_in}
-use Rattle.alpha_asm.specs.Layout.{Place, Placed, Fields, fields, filled_pad, layout, end, spot_of}
+use Rattle.alpha_asm.specs.declared.place.LabelLocation.{LabelLocation}
+use Rattle.alpha_asm.specs.declared.place.LabelLocation.TheVariants as spots
+use Rattle.alpha_asm.specs.Statement.{Reference, InsnStmt, coded, Cell, number, address, cells, Entry, entry_at}
+use Rattle.alpha_asm.specs.Statement.{entry_of, entry_in}
+use Rattle.alpha_asm.specs.Layout.{Place, Placed, Fields, fields, filled_pad, layout, end, location_of}
 
 -- A program: an image with instructions in place of their words.
 pub record Program : Type 0 where
@@ -52,15 +55,15 @@ program_of p = record {
 pub record Known : Type 0 where
   pub code_base : ℕ
   pub segments : List Segment
-  pub spots : List ℕ → Option Spot
+  pub locations : List ℕ → Option LabelLocation
 
 -- the address of a place in the code or in a segment
-abbrev pub spot_address : Known → Spot → ℕ
-spot_address k (spots.Code words) = k.code_base + 4 * words
-spot_address k (spots.Data segment offset) = option_map_or (λ s. s.base) (slice_get k.segments segment) 0 + offset
+abbrev pub location_address : Known → LabelLocation → ℕ
+location_address k (spots.Code words) = k.code_base + 4 * words
+location_address k (spots.Data segment offset) = option_map_or (λ s. s.base) (slice_get k.segments segment) 0 + offset
 
 abbrev pub address_of : Known → Reference → ℤ
-address_of k r = pos (option_map_or (spot_address k) (k.spots r.label) 0) +ℤ r.offset
+address_of k r = pos (option_map_or (location_address k) (k.locations r.label) 0) +ℤ r.offset
 
 -- The displacement of a branch over a distance from the next instruction on: a multiple of 4, and a number of words of
 -- 21 bits with its sign.
@@ -83,7 +86,7 @@ halved (pos a) = if nat_le a (2 ^ 30) then Some a else None
 halved (negsuc a) = None
 
 -- the displacement by which an instruction at pc reaches an address, if it does
-abbrev pub reached : Use → ℕ → ℤ → Option Displacement
+abbrev pub reached : RelocField → ℕ → ℤ → Option Displacement
 reached uses.Branch pc a = words_over (a -ℤ pos (pc + 4))
 reached uses.High pc a = option_map (λ n. Bytes (pos (high_half n))) (halved a)
 reached uses.Low pc a = option_map (λ n. Bytes (low_half n)) (halved a)
@@ -100,32 +103,32 @@ quadword_of (pos a) = if nat_lt a (2 ^ 64) then Some a else None
 quadword_of (negsuc a) = None
 
 -- what an address that a statement names is for
-pub data Need : Type 0 where
+pub data Target : Type 0 where
   -- an instruction behind so many others, which is to reach it
-  by_insn : (by : Use) (words : ℕ) → Need
+  by_insn : (field : RelocField) (words : ℕ) → Target
   -- a quadword of data
-  by_cell : Need
+  by_cell : Target
   -- the entry
-  by_entry : Need
+  by_entry : Target
 
 -- an address that a statement names
 pub record Name : Type 0 where
   pub line : ℕ
   pub reference : Reference
-  pub need : Need
+  pub target : Target
 
-abbrev pub name : ℕ → Reference → Need → Name
-name line reference need = record { line = line; reference = reference; need = need }
+abbrev pub name : ℕ → Reference → Target → Name
+name line reference target = record { line = line; reference = reference; target = target }
 
 abbrev pub list_of : {A : Type 0} → Option A → List A
 list_of None = []
 list_of (Some x) = x ∷ []
 
-abbrev pub insn_name : ℕ → ℕ → Coded → Option Name
+abbrev pub insn_name : ℕ → ℕ → InsnStmt → Option Name
 insn_name line words c = option_map (λ r. name line r.1 (by_insn r.0 words)) c.reach
 
 -- the address that the instruction of a statement is to reach, behind so many instructions
-abbrev pub insn_names : ℕ → ℕ → Said → List Name
+abbrev pub insn_names : ℕ → ℕ → Stmt → List Name
 insn_names line words s = list_of (option_and_then (insn_name line words) (coded s))
 
 abbrev pub cell_name : ℕ → Cell → Option Name
@@ -136,7 +139,7 @@ abbrev pub entry_name : ℕ → Entry → Option Name
 entry_name line (entry_at n) = None
 entry_name line (entry_of r) = Some (name line r by_entry)
 
-abbrev pub entry_names : ℕ → Said → List Name
+abbrev pub entry_names : ℕ → Stmt → List Name
 entry_names line s = list_of (option_and_then (entry_name line) (entry_in s))
 
 -- the addresses that a statement names
@@ -146,23 +149,25 @@ names_in x =
     ++ (filter_map (cell_name x.line) (cells x.item.statement) ++ entry_names x.line x.item.statement)
 
 -- whether an address is what is needed
-abbrev pub is_met : Known → ℤ → Need → Bool
-is_met k a (by_insn by words) = is_some (reached by (k.code_base + 4 * words) a)
-is_met k a by_cell = is_some (quadword_of a)
-is_met k a by_entry = true
+abbrev pub is_in_range : Known → ℤ → Target → Bool
+is_in_range k a (by_insn by words) = is_some (reached by (k.code_base + 4 * words) a)
+is_in_range k a by_cell = is_some (quadword_of a)
+is_in_range k a by_entry = true
 
 -- the line of an address whose label has no definition
 abbrev pub undefined_line : Known → Name → Option ℕ
-undefined_line k n = if is_none (k.spots n.reference.label) then Some n.line else None
+undefined_line k n = if is_none (k.locations n.reference.label) then Some n.line else None
 
 -- the line of an address that doesn't fit
-abbrev pub unmet_line : Known → Name → Option ℕ
-unmet_line k n = if is_met k (address_of k n.reference) n.need then None else Some n.line
+abbrev pub out_of_range_line : Known → Name → Option ℕ
+out_of_range_line k n = if is_in_range k (address_of k n.reference) n.target then None else Some n.line
 
 -- the instruction of a statement
-abbrev pub insn_in : Known → Place → Coded → Form
+abbrev pub insn_in : Known → Place → InsnStmt → Form
 insn_in k p c =
-    option_map_or (λ r. option_map_or (displaced c.insn) (reached r.0 (k.code_base + 4 * p.words) (address_of k r.1)) c.insn) c.reach c.insn
+    option_map_or
+    (λ r. option_map_or (displaced c.insn) (reached r.0 (k.code_base + 4 * p.words) (address_of k r.1)) c.insn) c.reach
+    c.insn
 
 abbrev pub code_in : Known → Placed → List Form
 code_in k x = option_map_or (λ c. insn_in k x.place c ∷ []) (coded x.item.statement) []
@@ -201,11 +206,16 @@ abbrev pub stack_of : Fields → ℕ
 stack_of f = unwrap_or f.stack stack_bytes
 
 -- the segments, the one of the first version first
-unfoldable pub segments_of : List LineSaid → List Segment
+unfoldable pub segments_of : List LineStmt → List Segment
 segments_of is = based (data_base_of (fields (layout is))) ((end is).earlier ++ (end is).last ∷ [])
 
-unfoldable pub known : List LineSaid → Known
-known is = record { code_base = code_base_of (fields (layout is)); segments = segments_of is; spots = spot_of (layout is) }
+unfoldable pub known : List LineStmt → Known
+known is =
+    record {
+      code_base = code_base_of (fields (layout is));
+      segments = segments_of is;
+      locations = location_of (layout is);
+    }
 
 -- a `.level` makes an image of the second version, whose segments are those of its `.segment` statements
 abbrev pub version_of : Option ℕ → Version
@@ -222,7 +232,7 @@ entry_number k (entry_at n) = n
 entry_number k (entry_of r) = unwrap_or (quadword_of (address_of k r)) (2 ^ 64 - 1)
 
 -- the numbers of the image
-abbrev pub numbers_of : List LineSaid → Entry → Numbers
+abbrev pub numbers_of : List LineStmt → Entry → Numbers
 numbers_of is entry = record {
   level = unwrap_or (end is).level 1;
   code_base = code_base_of (fields (layout is));
@@ -245,7 +255,7 @@ program_with version n code bytes = record {
 }
 
 -- the program of the items, with an entry
-abbrev pub program : List LineSaid → Entry → Program
+abbrev pub program : List LineStmt → Entry → Program
 program is entry =
     program_with (version_of (end is).level) (numbers_of is entry)
     (flat_map (code_in (known is)) (layout is)) (flat_map (bytes_in (known is)) (layout is))

@@ -1,7 +1,7 @@
 -- The lines of a source with their ends.
 use Rattle.std.specs.Prelude.{◌≡◌, ℕ, List, [], ◌∷◌, ◌++◌, ◌==◌, Bool, true, false, if◌then◌else◌}
 use Rattle.std.specs.Str.Lines.{strip_carriage_return}
-use Rattle.alpha_text.specs.Reading.{LineSaid}
+use Rattle.alpha_text.specs.Reading.{LineStmt}
 use Rattle.alpha_asm.specs.declared.lines.Line.{Line}
 use Rattle.alpha_asm.specs.Assembled.{item_at}
 
@@ -40,7 +40,7 @@ abbrev pub source_lines : List ℕ → List SourceLine
 source_lines [] = []
 source_lines (b ∷ source) = if b == 10 then ended [] ∷ source_lines source else longer b (source_lines source)
 
-abbrev pub line_item : SourceLine → LineSaid
+abbrev pub line_item : SourceLine → LineStmt
 line_item line = item_at (line_text line)
 
 -- a line as the code has it

@@ -2,12 +2,13 @@
 use Rattle.std.specs.Prelude.{◌≡◌, ℕ, List, map}
 use Rattle.std.specs.Str.Lines.{lines}
 use Rattle.alpha_asm.specs.declared.symbols.Symbols.TheInside.{Inside}
-use Rattle.alpha_asm.specs.Labels.{spot_named}
-use Rattle.alpha_asm.specs.Layout.{layout, spot_of}
+use Rattle.alpha_asm.specs.Labels.{location_named}
+use Rattle.alpha_asm.specs.Layout.{layout, location_of}
 use Rattle.alpha_asm.specs.LineKinds.{kinds_of}
 use Rattle.alpha_asm.specs.Assembled.{item_at}
 
 -- its labels and the kinds of its lines
 pub record IsGathered (i : Inside) : Type 0 where
-  pub labels : (name : List ℕ) → spot_named i.labels name ≡ spot_of (layout (map item_at (lines i.source.now))) name
+  pub labels : (name : List ℕ)
+      → location_named i.labels name ≡ location_of (layout (map item_at (lines i.source.now))) name
   pub kinds : i.kinds.items ≡ kinds_of (map item_at (lines i.source.now))

@@ -1,9 +1,10 @@
-ghost use Rattle.std.specs.Prelude.{◌≡◌, ◌≢◌, ◌<◌, ◌^◌, ◌++◌, [], length, map, true, Some, None, Ok, Err, OnOk, IfOk, IfErr};
+ghost use Rattle.std.specs.Prelude.{◌≡◌, ◌≢◌, ◌<◌, ◌^◌, ◌++◌, [], length, map, true, Some, None, Ok, Err, OnOk, IfOk};
+ghost use Rattle.std.specs.Prelude.{IfErr};
 ghost use Rattle.std.specs.Str.Lines.{lines};
 ghost use Rattle.alpha_asm.specs.Program.{program_of};
 ghost use Rattle.alpha_asm.specs.Assembled.{item_at, first_refused, assembled};
 ghost use Rattle.alpha_asm.specs.LineKinds.{kinds_of};
-ghost use Rattle.alpha_asm.specs.Pass.{Stands};
+ghost use Rattle.alpha_asm.specs.Pass.{PassSimulates};
 ghost use Rattle.alpha_asm.specs.declared.fault.AsmFault.TheVariants as faults;
 
 use crate::AsmFault;
@@ -11,7 +12,7 @@ use crate::kind::SourceKind;
 use crate::line_kind::LineKinds;
 use crate::lines::Line;
 use crate::pass::Pass;
-use crate::program::made;
+use crate::program::assembled_program;
 use alpha_image::Image;
 use std::alloc::Global;
 
@@ -29,7 +30,7 @@ pub fn assemble(alloc: Global, source: &[u8]) -> Result<Image, AsmFault>
 {
     let mut kinds = LineKinds::none(alloc);
     let pass = read_lines(alloc, SourceKind::Program, source, &mut kinds)?;
-    let (image, _labels) = made(pass)?;
+    let (image, _labels) = assembled_program(pass)?;
     Ok(image)
 }
 
@@ -41,7 +42,7 @@ pub(crate) fn read_lines<'a>(
     kinds: &mut LineKinds,
 ) -> Result<Pass<'a>, AsmFault>
     requires { length source.now < 2 ^ 32 }
-    ensures stands { IfOk result (Stands (map item_at (lines source.now))) }
+    ensures stands { IfOk result (PassSimulates (map item_at (lines source.now))) }
     ensures taken { OnOk result (first_refused kind [] (lines source.now) ≡ None) }
     ensures kinds { OnOk result (kinds.old.gathers ≡ true →
         kinds.new.items.items ≡ kinds.old.items.items

@@ -1,17 +1,20 @@
-ghost use Rattle.std.specs.Prelude.{◌≡◌, ◌+◌, ◌≤◌, ◌^◌, ◌*◌, map, slice_get, if◌then◌else◌, Some, None, OnOk, IfOk, IfErr, IfSome, OnSome, is_some};
+ghost use Rattle.std.specs.Prelude.{◌≡◌, ◌+◌, ◌≤◌, ◌^◌, ◌*◌, map, slice_get, if◌then◌else◌, Some, None, OnOk, IfOk};
+ghost use Rattle.std.specs.Prelude.{IfErr, IfSome, OnSome, is_some};
 ghost use Rattle.std.specs.Option.{option_map, option_map_or, option_or};
 ghost use Rattle.alpha_asm.specs.Layout.{first};
-ghost use Rattle.alpha_asm.specs.Program.{spot_address, address_of, quadword_of, undefined_line, unmet_line, is_met, entry_number, reached};
-ghost use Rattle.alpha_asm.specs.Patches.{reference_of, entry_view, fix_of, need_of, offset_of, names_of, IsField, IsNear, overlaid, code_at, code_with, bytes_with, code_after, bytes_after};
+ghost use Rattle.alpha_asm.specs.Program.{location_address, address_of, quadword_of, undefined_line, out_of_range_line};
+ghost use Rattle.alpha_asm.specs.Program.{is_in_range, entry_number, reached};
+ghost use Rattle.alpha_asm.specs.Patches.{reference_of, entry_view, fix_of, target_of, offset_of, names_of, IsField};
+ghost use Rattle.alpha_asm.specs.Patches.{IsNear, overlaid, code_at, code_with, bytes_with, code_after, bytes_after};
 ghost use Rattle.alpha_asm.specs.Bases.{known_of};
 ghost use Rattle.alpha_asm.specs.declared.fault.AsmFault.TheVariants as faults;
 
 use crate::AsmFault;
 use crate::fields::Entry;
 use crate::label::Labels;
-use crate::patch::{Displacement, Need, Patch, RelocationKind, displaced, quadword_of};
-use crate::place::Spot;
-use crate::statement::Use;
+use crate::patch::{Displacement, Patch, RelocationKind, Target, quadword_of, with_displacement};
+use crate::place::LabelLocation;
+use crate::statement::RelocField;
 use alpha_image::Segment;
 use alpha_table::Insn;
 use alpha_text::Expr;
@@ -36,13 +39,13 @@ impl<'a> Bases<'_, 'a> {
     }
 
     // The address of a place in the code or in a segment.
-    fn spot_address(&self, spot: Spot) -> u128
-        ensures value { result ≡ spot_address (known_of self.now) spot }
+    fn location_address(&self, location: LabelLocation) -> u128
+        ensures value { result ≡ location_address (known_of self.now) location }
         ensures bound { result ≤ 2 ^ 69 }
     {
-        match spot {
-            Spot::Code(words) => u128::from(self.code_base) + 4 * u128::from(words),
-            Spot::Data(segment, offset) => {
+        match location {
+            LabelLocation::Code(words) => u128::from(self.code_base) + 4 * u128::from(words),
+            LabelLocation::Data(segment, offset) => {
                 u128::from(self.base(segment as usize)) + u128::from(offset)
             },
         }
@@ -50,13 +53,13 @@ impl<'a> Bases<'_, 'a> {
 
     // The address that a statement names, `None` exactly where the label has no definition.
     fn address(&self, to: &Expr<'a>) -> Option<i128>
-        ensures found { is_some result ≡ is_some ((known_of self.now).spots to.now.label.now) }
+        ensures found { is_some result ≡ is_some ((known_of self.now).locations to.now.label.now) }
         ensures value { IfSome result (λ a. a
             ≡ address_of (known_of self.now) (reference_of to.now)) }
-        ensures near { IfSome result IsNear }
+        ensures in_range { IfSome result IsNear }
     {
-        let spot = self.labels.spot(to.label)?;
-        Some(self.spot_address(spot) as i128 + i128::from(to.offset))
+        let spot = self.labels.location(to.label)?;
+        Some(self.location_address(spot) as i128 + i128::from(to.offset))
     }
 
     /// The address of the entry, the last number of 64 bits where it is outside them.
@@ -81,7 +84,7 @@ fn displace(code: &mut Vec<Insn>, place: usize, displacement: Displacement)
 {
     match code.get(place) {
         Some(insn) => {
-            let new = displaced(insn, displacement);
+            let new = with_displacement(insn, displacement);
             code[place] = new;
         }
         None => {}
@@ -90,13 +93,19 @@ fn displace(code: &mut Vec<Insn>, place: usize, displacement: Displacement)
 
 /// Puts an address into the instruction at a place, which stands at `pc`, if there is one. It answers whether the
 /// instruction reaches it.
-pub fn put_insn(by: Use, pc: u128, place: usize, address: i128, code: &mut Vec<Insn>) -> bool
+pub fn put_insn(
+    field: RelocField,
+    pc: u128,
+    place: usize,
+    address: i128,
+    code: &mut Vec<Insn>,
+) -> bool
     requires pc { pc ≤ 2 ^ 70 }
-    requires near { IsNear address }
-    ensures fits { result ≡ is_some (reached by pc address) }
-    ensures code { code.new.items ≡ code_at (reached by pc address) place code.old.items }
+    requires in_range { IsNear address }
+    ensures fits { result ≡ is_some (reached field pc address) }
+    ensures code { code.new.items ≡ code_at (reached field pc address) place code.old.items }
 {
-    match by.displacement(pc, address) {
+    match field.displacement(pc, address) {
         Some(displacement) => {
             displace(code, place, displacement);
             true
@@ -139,36 +148,36 @@ fn put_patch<'a>(
     code: &mut Vec<Insn>,
     bytes: &mut Vec<u8>,
 ) -> Option<bool>
-    ensures found { is_some result ≡ is_some ((known_of bases.now).spots patch.now.to.label.now) }
+    ensures found { is_some result ≡ is_some ((known_of bases.now).locations patch.now.to.label.now) }
     ensures fits { IfSome result (λ fits. fits
-        ≡ is_met (known_of bases.now) (address_of (known_of bases.now) (reference_of patch.now.to))
-        (need_of patch.now.at patch.now.need)) }
+        ≡ is_in_range (known_of bases.now) (address_of (known_of bases.now) (reference_of patch.now.to))
+        (target_of patch.now.at patch.now.target)) }
     ensures code { OnSome result (code.new.items
         ≡ code_with (known_of bases.now)
         (address_of (known_of bases.now) (reference_of patch.now.to))
-        (need_of patch.now.at patch.now.need) code.old.items) }
+        (target_of patch.now.at patch.now.target) code.old.items) }
     ensures bytes { OnSome result (bytes.new.items
-        ≡ bytes_with (known_of bases.now) (offset_of patch.now.at patch.now.need)
+        ≡ bytes_with (known_of bases.now) (offset_of patch.now.at patch.now.target)
         (address_of (known_of bases.now) (reference_of patch.now.to))
-        (need_of patch.now.at patch.now.need) bytes.old.items) }
+        (target_of patch.now.at patch.now.target) bytes.old.items) }
 {
     let address = bases.address(&patch.to)?;
     let at = patch.at;
-    match patch.need {
-        Need::Put(RelocationKind::Insn(by)) => {
+    match patch.target {
+        Target::Put(RelocationKind::Insn(by)) => {
             let pc = u128::from(bases.code_base) + 4 * at as u128;
             Some(put_insn(by, pc, at, address, code))
         }
-        Need::Put(RelocationKind::Quad) => Some(put_quad(address, at, bytes)),
-        Need::Entry => Some(true),
+        Target::Put(RelocationKind::Quad) => Some(put_quad(address, at, bytes)),
+        Target::Entry => Some(true),
     }
 }
 
 // The first line that is known, of one known so far and one that doesn't fit.
-fn first_unmet(unmet: Option<u32>, fits: bool, line: u32) -> Option<u32>
-    ensures { result ≡ option_or unmet (if fits then None else Some line) }
+fn first_out_of_range(found: Option<u32>, fits: bool, line: u32) -> Option<u32>
+    ensures { result ≡ option_or found (if fits then None else Some line) }
 {
-    match unmet {
+    match found {
         Some(first) => Some(first),
         None => { if fits { None } else { Some(line) } }
     }
@@ -190,8 +199,8 @@ pub(crate) fn put_all<'a>(
         (first (undefined_line (known_of bases.now)) (names_of patches.now)) ≡ Some fault) }
     ensures defined { OnOk result
         (first (undefined_line (known_of bases.now)) (names_of patches.now) ≡ None) }
-    ensures unmet { IfOk result (λ line. line
-        ≡ first (unmet_line (known_of bases.now)) (names_of patches.now)) }
+    ensures out_of_range { IfOk result (λ line. line
+        ≡ first (out_of_range_line (known_of bases.now)) (names_of patches.now)) }
     ensures code { OnOk result (code.new.items
         ≡ code_after (known_of bases.now) (map fix_of patches.now) code.old.items) }
     ensures bytes { OnOk result (bytes.new.items
@@ -201,7 +210,7 @@ pub(crate) fn put_all<'a>(
     for patch in patches {
         match put_patch(bases, patch, code, bytes) {
             Some(fits) => {
-                unmet = first_unmet(unmet, fits, patch.line);
+                unmet = first_out_of_range(unmet, fits, patch.line);
             }
             None => return Err(AsmFault::Undefined(patch.line)),
         }

@@ -1,6 +1,6 @@
 ghost use Rattle.std.specs.Prelude.{◌≡◌};
 ghost use Rattle.std.specs.Option.{option_map};
-ghost use Rattle.alpha_text.specs.Statements.{said};
+ghost use Rattle.alpha_text.specs.Statements.{stmt_of};
 ghost use Rattle.alpha_asm.specs.Statement.{code_base_in, data_base_in, stack_in, entry_in};
 ghost use Rattle.alpha_asm.specs.Layout.{repeats_field, with_fields};
 ghost use Rattle.alpha_asm.specs.Patches.{entry_view};
@@ -27,7 +27,7 @@ pub(crate) struct FieldsRead<'a> {
 }
 
 fn code_base_in(statement: &Statement<'_>) -> Option<u64>
-    ensures { result ≡ code_base_in (said statement.now) }
+    ensures { result ≡ code_base_in (stmt_of statement.now) }
 {
     match *statement {
         Statement::CodeBase(n) => Some(n),
@@ -36,7 +36,7 @@ fn code_base_in(statement: &Statement<'_>) -> Option<u64>
 }
 
 fn data_base_in(statement: &Statement<'_>) -> Option<u64>
-    ensures { result ≡ data_base_in (said statement.now) }
+    ensures { result ≡ data_base_in (stmt_of statement.now) }
 {
     match *statement {
         Statement::DataBase(n) => Some(n),
@@ -45,7 +45,7 @@ fn data_base_in(statement: &Statement<'_>) -> Option<u64>
 }
 
 fn stack_in(statement: &Statement<'_>) -> Option<u64>
-    ensures { result ≡ stack_in (said statement.now) }
+    ensures { result ≡ stack_in (stmt_of statement.now) }
 {
     match *statement {
         Statement::Stack(n) => Some(n),
@@ -55,7 +55,7 @@ fn stack_in(statement: &Statement<'_>) -> Option<u64>
 
 /// The entry that a statement gives.
 pub(crate) fn entry_in<'a>(statement: &Statement<'a>) -> Option<Entry<'a>>
-    ensures { option_map entry_view result ≡ entry_in (said statement.now) }
+    ensures { option_map entry_view result ≡ entry_in (stmt_of statement.now) }
 {
     match *statement {
         Statement::EntryAt(n) => Some(Entry::At(n)),
@@ -75,7 +75,7 @@ impl<'a> FieldsRead<'a> {
 
     /// Whether a statement is one of those for the second time.
     pub(crate) fn repeats(&self, statement: &Statement<'_>) -> bool
-        ensures { result ≡ repeats_field (fields_read self.now) (said statement.now) }
+        ensures { result ≡ repeats_field (fields_read self.now) (stmt_of statement.now) }
     {
         match *statement {
             Statement::CodeBase(_) => self.code_base.is_some(),
@@ -88,7 +88,7 @@ impl<'a> FieldsRead<'a> {
 
     /// With a further statement.
     pub(crate) fn with(&self, statement: &Statement<'a>) -> FieldsRead<'a>
-        ensures { fields_read result ≡ with_fields (fields_read self.now) (said statement.now) }
+        ensures { fields_read result ≡ with_fields (fields_read self.now) (stmt_of statement.now) }
     {
         FieldsRead {
             code_base: self.code_base.or(code_base_in(statement)),

@@ -1,8 +1,8 @@
 ghost use Rattle.std.specs.Prelude.{◌≡◌};
-ghost use Rattle.alpha_text.specs.Statements.{said};
-ghost use Rattle.alpha_asm.specs.Layout.{suits_module, is_barred};
+ghost use Rattle.alpha_text.specs.Statements.{stmt_of};
+ghost use Rattle.alpha_asm.specs.Layout.{is_allowed_in_module, is_barred};
 
-use crate::statement::Use;
+use crate::statement::RelocField;
 use alpha_text::Statement;
 
 /// What a source is of.
@@ -15,8 +15,8 @@ pub enum SourceKind {
 }
 
 // Whether a module may have a statement, wherever it stands.
-fn suits_module(statement: &Statement<'_>) -> bool
-    ensures { result ≡ suits_module (said statement.now) }
+fn is_allowed_in_module(statement: &Statement<'_>) -> bool
+    ensures { result ≡ is_allowed_in_module (stmt_of statement.now) }
 {
     match statement {
         Statement::Level(_)
@@ -26,8 +26,8 @@ fn suits_module(statement: &Statement<'_>) -> bool
         | Statement::Stack(_)
         | Statement::EntryAt(_)
         | Statement::EntryLabel(_) => false,
-        Statement::High { insn, .. } => Use::High.suits(insn),
-        Statement::Low { insn, .. } => Use::Low.suits(insn),
+        Statement::High { insn, .. } => RelocField::High.applies_to(insn),
+        Statement::Low { insn, .. } => RelocField::Low.applies_to(insn),
         Statement::Empty
         | Statement::Code(_)
         | Statement::Target { .. }
@@ -43,11 +43,11 @@ fn suits_module(statement: &Statement<'_>) -> bool
 impl SourceKind {
     /// Whether a source of this kind may not have a statement, wherever it stands.
     pub(crate) fn bars(self, statement: &Statement<'_>) -> bool
-        ensures { result ≡ is_barred self (said statement.now) }
+        ensures { result ≡ is_barred self (stmt_of statement.now) }
     {
         match self {
             SourceKind::Program => false,
-            SourceKind::Module => !suits_module(statement),
+            SourceKind::Module => !is_allowed_in_module(statement),
         }
     }
 }

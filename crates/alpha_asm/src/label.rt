@@ -1,6 +1,6 @@
 ghost use Rattle.std.specs.Prelude.{◌≡◌, length};
 
-use crate::place::Spot;
+use crate::place::LabelLocation;
 use alpha_names::Names;
 
 /// The labels that a source defines. Each has a number from 0, by which it is found without its name.
@@ -9,6 +9,6 @@ pub struct Labels<'a> {
     /// Their names.
     pub(crate) names: Names<'a>,
     /// Where the label with each number is defined.
-    pub(crate) spots: Vec<Spot>,
-    ghost alike: { length spots.items ≡ length names },
+    pub(crate) locations: Vec<LabelLocation>,
+    ghost alike: { length locations.items ≡ length names },
 }

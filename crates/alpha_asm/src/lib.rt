@@ -16,7 +16,8 @@
 //! the pass has made of it.
 //!
 //! `lines.rt` cuts a source into lines, here and in `alpha_fix`; `statement.rt` says what a statement asks,
-//! apart from where it stands; `place.rt` is the place that a line stands at, `fields.rt` the field statements, `label.rt`
+//! apart from where it stands; `place.rt` is the place that a line stands at, `fields.rt` the field statements,
+//! `label.rt`
 //! and `labels.rt` the labels, `output.rt` the instructions and data bytes, which `data.rt` holds without their
 //! paddings, `patch.rt` the addresses that are put in later, and `pass.rt` the state with the steps that
 //! each line takes. The image takes the instructions and the data bytes as they are: nothing is encoded
@@ -24,16 +25,19 @@
 //!
 //! [`Line`] is the first line of a source, and what stands behind it.
 //!
-//! [`Section`], [`Spot`], [`Use`] and [`Displacement`] are what its definitions speak of, for crates that
-//! cite them, and [`Labels`], [`Patch`], [`Need`] and [`RelocationKind`] what [`Unlinked`] has. [`put_insn`] and
-//! [`put_quad`] put an address in, here and in a link, [`Use::suits`] says which instruction it goes into, and
+//! [`Section`], [`LabelLocation`], [`RelocField`] and [`Displacement`] are what its definitions speak of, for crates
+//! that
+//! cite them, and [`Labels`], [`Patch`], [`Target`] and [`RelocationKind`] what [`Unlinked`] has. [`put_insn`] and
+//! [`put_quad`] put an address in, here and in a link, [`RelocField::applies_to`] says which instruction it goes into,
+//! and
 //! [`padding`] rounds sizes. [`CODE_BASE`], [`DATA_BASE`] and [`STACK_BYTES`] are what an image has without
 //! statements of them.
 //!
 //! `specs/Statement.antt` has what a statement asks, `specs/Layout.antt` where each item stands,
 //! `specs/Program.antt` the program that the items make, and `specs/Assembled.antt` the image of a
 //! source or its first refusal; `specs/SourceLines.antt` has the lines of a source with their ends. None of
-//! them knows of a pass or a patch; `specs/Patches.antt` and `specs/Pass.antt` say what the state of the pass is, and `specs/Finished.antt` what it comes to;
+//! them knows of a pass or a patch; `specs/Patches.antt` and `specs/Pass.antt` say what the state of the pass is, and
+//! `specs/Finished.antt` what it comes to;
 //! `specs/Labels.antt`, `specs/Unlinked.antt`, `specs/Symbols.antt` and `specs/LineKinds.antt` what other
 //! crates get of it.
 #![tactic(auto)]
@@ -66,9 +70,9 @@ pub use label::Labels;
 pub use laws::laws_of_sources;
 pub use line_kind::LineKind;
 pub use lines::Line;
-pub use patch::{Displacement, Need, Patch, RelocationKind};
-pub use place::{Section, Spot, padding};
+pub use patch::{Displacement, Patch, RelocationKind, Target};
+pub use place::{LabelLocation, Section, padding};
 pub use program::{CODE_BASE, DATA_BASE, STACK_BYTES};
-pub use statement::Use;
+pub use statement::RelocField;
 pub use symbols::{Symbols, assemble_with_symbols};
 pub use unlinked::Unlinked;

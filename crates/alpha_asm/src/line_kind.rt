@@ -1,10 +1,10 @@
 //! What the lines of a source are to whoever puts instructions before them.
 
 ghost use Rattle.std.specs.Prelude.{◌≡◌, ◌++◌, ◌∷◌, [], true, OnOk};
-ghost use Rattle.alpha_text.specs.Statements.{said, code};
+ghost use Rattle.alpha_text.specs.Statements.{stmt_of, code};
 ghost use Rattle.alpha_asm.specs.LineKinds.{insn_if, line_kind};
 
-use crate::statement::Use;
+use crate::statement::RelocField;
 use alpha_table::Insn;
 use alpha_text::Statement;
 use std::alloc::{AllocError, Global};
@@ -17,7 +17,7 @@ pub enum LineKind {
     /// It has an instruction, which names no place of the code or a label alone.
     Insn,
     /// What it says may depend on where instructions stand.
-    Bound,
+    PositionDependent,
 }
 
 // An instruction, which names no place in its own way where this is so.
@@ -27,22 +27,25 @@ fn insn_if(free: bool) -> LineKind
     if free {
         LineKind::Insn
     } else {
-        LineKind::Bound
+        LineKind::PositionDependent
     }
 }
 
 // The kind of a line with a statement.
 fn line_kind(statement: &Statement<'_>) -> LineKind
-    ensures { result ≡ line_kind (said statement.now) }
+    ensures { result ≡ line_kind (stmt_of statement.now) }
 {
     match statement {
-        Statement::Code(insn) => insn_if(!Use::Branch.suits(insn)),
+        Statement::Code(insn) => insn_if(!RelocField::Branch.applies_to(insn)),
         Statement::Target { target, .. } => insn_if(target.offset == 0),
         Statement::High { insn, address } | Statement::Low { insn, address } => {
-            insn_if(address.offset == 0 && (Use::High.suits(insn) || Use::Low.suits(insn)))
+            insn_if(
+                address.offset == 0
+                    && (RelocField::High.applies_to(insn) || RelocField::Low.applies_to(insn)),
+            )
         }
         Statement::EntryAt(_) | Statement::EntryLabel(_) | Statement::Values { .. } => {
-            LineKind::Bound
+            LineKind::PositionDependent
         }
         Statement::Empty
         | Statement::Level(_)
@@ -94,7 +97,8 @@ impl LineKinds {
             self.new.items.items ≡ self.old.items.items ++ line_kind (code insn.now) ∷ []) }
     {
         if self.gathers {
-            self.items.push(insn_if(!Use::Branch.suits(insn)))?;
+            self.items
+                .push(insn_if(!RelocField::Branch.applies_to(insn)))?;
         }
         Ok(())
     }
@@ -103,7 +107,7 @@ impl LineKinds {
     pub(crate) fn push(&mut self, statement: &Statement<'_>) -> Result<(), AllocError>
         ensures gathers { self.new.gathers ≡ self.old.gathers }
         ensures items { OnOk result (self.old.gathers ≡ true →
-            self.new.items.items ≡ self.old.items.items ++ line_kind (said statement.now) ∷ []) }
+            self.new.items.items ≡ self.old.items.items ++ line_kind (stmt_of statement.now) ∷ []) }
     {
         if self.gathers {
             self.items.push(line_kind(statement))?;

@@ -1,15 +1,15 @@
 ghost use Rattle.std.specs.Prelude.{◌≡◌, ◌++◌, ◌∷◌, [], length, map, OnOk};
 ghost use Rattle.alpha_operands.specs.Values.{view};
-ghost use Rattle.alpha_text.specs.Statements.{said};
+ghost use Rattle.alpha_text.specs.Statements.{stmt_of};
 ghost use Rattle.alpha_asm.specs.Statement.{cell_of, values_up_to, bytes_up_to};
 ghost use Rattle.alpha_asm.specs.Statement.{number as cell, address};
 ghost use Rattle.alpha_asm.specs.Program.{name, list_of, insn_name, entry_names};
-ghost use Rattle.alpha_asm.specs.Patches.{fix, fix_of, need_of, offset_of, reference_of, coded_of, AddsCells};
+ghost use Rattle.alpha_asm.specs.Patches.{fix, fix_of, target_of, offset_of, reference_of, coded_of, AddsCells};
 
 use crate::data::Data;
 use crate::fields::{Entry, entry_in};
-use crate::patch::{Need, Patch, RelocationKind};
-use crate::statement::Coded;
+use crate::patch::{Patch, RelocationKind, Target};
+use crate::statement::InsnStmt;
 use alpha_table::Insn;
 use alpha_text::{Expr, ListValue, Statement, next_byte, next_value};
 use std::alloc::{AllocError, Global};
@@ -30,13 +30,18 @@ fn push_patch<'a>(
     patches: &mut Vec<Patch<'a>>,
     line: u32,
     to: Expr<'a>,
-    need: Need,
+    target: Target,
     at: usize,
 ) -> Result<(), AllocError>
     ensures { OnOk result (map fix_of patches.new.items ≡ map fix_of patches.old.items
-        ++ fix (offset_of at need) (name line (reference_of to.entry) (need_of at need)) ∷ []) }
+        ++ fix (offset_of at target) (name line (reference_of to.entry) (target_of at target)) ∷ []) }
 {
-    patches.push(Patch { to, at, line, need })?;
+    patches.push(Patch {
+        to,
+        at,
+        line,
+        target,
+    })?;
     Ok(())
 }
 
@@ -45,7 +50,7 @@ fn push_reach<'a>(
     patches: &mut Vec<Patch<'a>>,
     line: u32,
     place: usize,
-    coded: &Coded<'a>,
+    coded: &InsnStmt<'a>,
 ) -> Result<(), AllocError>
     ensures { OnOk result (map fix_of patches.new.items ≡ map fix_of patches.old.items
         ++ map (fix 0) (list_of (insn_name line place (coded_of coded.now)))) }
@@ -55,7 +60,7 @@ fn push_reach<'a>(
             patches,
             line,
             to,
-            Need::Put(RelocationKind::Insn(by)),
+            Target::Put(RelocationKind::Insn(by)),
             place,
         ),
         None => Ok(()),
@@ -69,10 +74,10 @@ pub(crate) fn push_entry<'a>(
     statement: &Statement<'a>,
 ) -> Result<(), AllocError>
     ensures { OnOk result (map fix_of patches.new.items ≡ map fix_of patches.old.items
-        ++ map (fix 0) (entry_names line (said statement.now))) }
+        ++ map (fix 0) (entry_names line (stmt_of statement.now))) }
 {
     match entry_in(statement) {
-        Some(Entry::Of(to)) => push_patch(patches, line, to, Need::Entry, 0),
+        Some(Entry::Of(to)) => push_patch(patches, line, to, Target::Entry, 0),
         Some(Entry::At(_)) | None => Ok(()),
     }
 }
@@ -92,7 +97,7 @@ impl<'a> Output<'a> {
     }
 
     /// Adds an instruction.
-    pub(crate) fn push_coded(&mut self, line: u32, coded: &Coded<'a>) -> Result<(), AllocError>
+    pub(crate) fn push_coded(&mut self, line: u32, coded: &InsnStmt<'a>) -> Result<(), AllocError>
         ensures code { OnOk result (self.new.code.items
             ≡ self.old.code.items ++ coded.now.insn ∷ []) }
         ensures bytes { self.new.bytes ≡ self.old.bytes }
@@ -151,7 +156,7 @@ impl<'a> Output<'a> {
             &mut self.patches,
             line,
             to,
-            Need::Put(RelocationKind::Quad),
+            Target::Put(RelocationKind::Quad),
             at,
         )?;
         self.bytes.push_number(8, 0)

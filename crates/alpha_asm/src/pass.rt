@@ -1,16 +1,19 @@
-ghost use Rattle.std.specs.Prelude.{◌≡◌, ◌≢◌, ◌+◌, ◌^◌, ◌<◌, ◌++◌, ◌∷◌, ℕ, true, false, List, [], Some, None, OnOk, IfOk, IfErr, length, ◌≤◌};
+ghost use Rattle.std.specs.Prelude.{◌≡◌, ◌≢◌, ◌+◌, ◌^◌, ◌<◌, ◌++◌, ◌∷◌, ℕ, true, false, List, [], Some, None, OnOk};
+ghost use Rattle.std.specs.Prelude.{IfOk, IfErr, length, ◌≤◌};
 ghost use Rattle.std.specs.Option.{option_map};
-ghost use Rattle.alpha_text.specs.Statements.{said};
+ghost use Rattle.alpha_text.specs.Statements.{stmt_of};
 ghost use Rattle.alpha_text.specs.Bounds.{IsWithin};
-ghost use Rattle.alpha_text.specs.Reading.{item_said};
+ghost use Rattle.alpha_text.specs.Reading.{line_stmt_of};
 ghost use Rattle.alpha_quick.specs.Parts.{unlabelled};
-ghost use Rattle.alpha_quick.specs.Rest.{IsRest};
+ghost use Rattle.alpha_quick.specs.Unparsed.{IsUnparsed};
 ghost use Rattle.alpha_asm.specs.Statement.{cells, coded};
 ghost use Rattle.alpha_asm.specs.LineKinds.{line_kind};
-ghost use Rattle.alpha_asm.specs.Layout.{spot, repeats_label};
+ghost use Rattle.alpha_asm.specs.Layout.{location, repeats_label};
 ghost use Rattle.alpha_asm.specs.Assembled.{item_at, refused};
 ghost use Rattle.alpha_asm.specs.Patches.{coded_of, AddsCells};
-ghost use Rattle.alpha_asm.specs.Pass.{place_of, spot_at, with_label, refused_here, IsBounded, AddsInsn, AddsStatement, AddsItem, Stands};
+ghost use Rattle.alpha_asm.specs.Pass.{place_of, location_at, with_label, refused_here, IsBounded, AddsInsn};
+ghost use Rattle.alpha_asm.specs.Pass.{AddsStatement};
+ghost use Rattle.alpha_asm.specs.Pass.{AddsItem, PassSimulates};
 ghost use Rattle.alpha_asm.specs.declared.kind.SourceKind.{SourceKind};
 ghost use Rattle.alpha_asm.specs.declared.fault.AsmFault.TheVariants as faults;
 
@@ -21,8 +24,8 @@ use crate::label::Labels;
 use crate::line_kind::LineKinds;
 use crate::output::{Output, push_entry};
 use crate::place::Place;
-use crate::statement::{Coded, coded_in, is_statement};
-use alpha_quick::{Rest, read_insn};
+use crate::statement::{InsnStmt, coded_in, is_statement};
+use alpha_quick::{Unparsed, read_insn};
 use alpha_table::Insn;
 use alpha_text::{Item, Statement};
 use std::alloc::{AllocError, Global};
@@ -44,7 +47,7 @@ pub(crate) struct Pass<'a> {
 impl<'a> Pass<'a> {
     /// Before the first line.
     pub(crate) fn new(alloc: Global) -> Pass<'a>
-        ensures stands { Stands [] result }
+        ensures stands { PassSimulates [] result }
         ensures bounded { IsBounded result }
         ensures line { result.line ≡ 0 }
     {
@@ -70,12 +73,12 @@ impl<'a> Pass<'a> {
     ) -> Result<(), AsmFault>
         requires bounded { IsBounded self.old }
         requires lines { self.old.line + 1 < 2 ^ 32 }
-        ensures ok { OnOk result ((is : _) → Stands is self.old
-            → Stands (is ++ item_at line.entry.now ∷ []) self.new) }
-        ensures taken { OnOk result ((is : _) → Stands is self.old
+        ensures ok { OnOk result ((is : _) → PassSimulates is self.old
+            → PassSimulates (is ++ item_at line.entry.now ∷ []) self.new) }
+        ensures taken { OnOk result ((is : _) → PassSimulates is self.old
             → refused kind is line.entry.now ≡ None) }
         ensures refused { IfErr result (λ fault. fault ≢ faults.NoMemory →
-            (is : _) → Stands is self.old → refused kind is line.entry.now ≡ Some fault) }
+            (is : _) → PassSimulates is self.old → refused kind is line.entry.now ≡ Some fault) }
         ensures bounded { OnOk result (IsBounded self.new) }
         ensures line { OnOk result (self.new.line ≡ self.old.line + 1) }
         ensures gathers { kinds.new.gathers ≡ kinds.old.gathers }
@@ -100,19 +103,19 @@ impl<'a> Pass<'a> {
     fn take_rest(
         &mut self,
         kind: SourceKind,
-        rest: &Rest<'a>,
+        rest: &Unparsed<'a>,
         kinds: &mut LineKinds,
     ) -> Result<(), AsmFault>
         requires bounded { IsBounded self.old }
         requires lines { self.old.line + 1 < 2 ^ 32 }
-        requires read { IsRest rest.now }
+        requires read { IsUnparsed rest.now }
         requires size { length rest.now.line.now ≤ 1024 }
-        ensures ok { OnOk result ((is : _) → Stands is self.old
-            → Stands (is ++ item_at rest.now.line.now ∷ []) self.new) }
-        ensures taken { OnOk result ((is : _) → Stands is self.old
+        ensures ok { OnOk result ((is : _) → PassSimulates is self.old
+            → PassSimulates (is ++ item_at rest.now.line.now ∷ []) self.new) }
+        ensures taken { OnOk result ((is : _) → PassSimulates is self.old
             → refused kind is rest.now.line.now ≡ None) }
         ensures refused { IfErr result (λ fault. fault ≢ faults.NoMemory →
-            (is : _) → Stands is self.old → refused kind is rest.now.line.now ≡ Some fault) }
+            (is : _) → PassSimulates is self.old → refused kind is rest.now.line.now ≡ Some fault) }
         ensures bounded { OnOk result (IsBounded self.new) }
         ensures line { OnOk result (self.new.line ≡ self.old.line + 1) }
         ensures gathers { kinds.new.gathers ≡ kinds.old.gathers }
@@ -132,11 +135,11 @@ impl<'a> Pass<'a> {
     fn take_item(&mut self, kind: SourceKind, item: &Item<'a>) -> Result<(), AsmFault>
         requires bounded { IsBounded self.old }
         requires lines { self.old.line + 1 < 2 ^ 32 }
-        requires within { IsWithin (said item.now.statement) }
-        ensures ok { OnOk result (AddsItem (item_said item.now) self.old self.new) }
-        ensures taken { OnOk result (refused_here kind self.old (item_said item.now) ≡ None) }
+        requires within { IsWithin (stmt_of item.now.statement) }
+        ensures ok { OnOk result (AddsItem (line_stmt_of item.now) self.old self.new) }
+        ensures taken { OnOk result (refused_here kind self.old (line_stmt_of item.now) ≡ None) }
         ensures refused { IfErr result (λ fault. fault ≢ faults.NoMemory →
-            refused_here kind self.old (item_said item.now) ≡ Some fault) }
+            refused_here kind self.old (line_stmt_of item.now) ≡ Some fault) }
         ensures bounded { OnOk result (IsBounded self.new) }
     {
         if kind.bars(&item.statement) || self.place.is_misplaced(&item.statement) {
@@ -179,16 +182,16 @@ impl<'a> Pass<'a> {
         requires bounded { IsBounded self.old }
         requires lines { self.old.line + 1 < 2 ^ 32 }
         ensures value { IfOk result (λ again.
-            again ≡ repeats_label (spot_at self.old) (option_map (λ l. l.now) label.entry)) }
+            again ≡ repeats_label (location_at self.old) (option_map (λ l. l.now) label.entry)) }
         ensures labels { IfOk result (λ again. again ≡ false → (name : List ℕ) →
-            spot_at self.new name
-            ≡ with_label (spot_at self.old) (option_map (λ l. l.now) label.entry)
-            (spot (place_of self.old)) name) }
+            location_at self.new name
+            ≡ with_label (location_at self.old) (option_map (λ l. l.now) label.entry)
+            (location (place_of self.old)) name) }
         ensures same { self.new ≡ record self.old { labels = self.new.labels } }
     {
         match label {
             Some(name) => {
-                let spot = self.place.spot(self.output.code.len());
+                let spot = self.place.location(self.output.code.len());
                 self.labels.define(name, spot)
             }
             None => Ok(false),
@@ -199,8 +202,8 @@ impl<'a> Pass<'a> {
     fn add(&mut self, item: &Item<'a>) -> Result<(), AllocError>
         requires bounded { IsBounded self.old }
         requires lines { self.old.line + 1 < 2 ^ 32 }
-        requires within { IsWithin (said item.now.statement) }
-        ensures ok { OnOk result (AddsStatement (item_said item.now) self.old self.new) }
+        requires within { IsWithin (stmt_of item.now.statement) }
+        ensures ok { OnOk result (AddsStatement (line_stmt_of item.now) self.old self.new) }
         ensures labels { self.new.labels ≡ self.old.labels }
         ensures bounded { OnOk result (IsBounded self.new) }
     {
@@ -215,7 +218,7 @@ impl<'a> Pass<'a> {
     }
 
     // Adds an instruction, which changes little else.
-    fn add_insn(&mut self, coded: &Coded<'a>) -> Result<(), AllocError>
+    fn add_insn(&mut self, coded: &InsnStmt<'a>) -> Result<(), AllocError>
         requires lines { self.old.line + 1 < 2 ^ 32 }
         ensures ok { OnOk result (AddsInsn (coded_of coded.now) self.old self.new) }
         ensures labels { self.new.labels ≡ self.old.labels }
@@ -231,9 +234,9 @@ impl<'a> Pass<'a> {
     fn add_other(&mut self, item: &Item<'a>) -> Result<(), AllocError>
         requires bounded { IsBounded self.old }
         requires lines { self.old.line + 1 < 2 ^ 32 }
-        requires within { IsWithin (said item.now.statement) }
-        requires plain { coded (said item.now.statement) ≡ None }
-        ensures ok { OnOk result (AddsStatement (item_said item.now) self.old self.new) }
+        requires within { IsWithin (stmt_of item.now.statement) }
+        requires plain { coded (stmt_of item.now.statement) ≡ None }
+        ensures ok { OnOk result (AddsStatement (line_stmt_of item.now) self.old self.new) }
         ensures labels { self.new.labels ≡ self.old.labels }
         ensures bounded { OnOk result (IsBounded self.new) }
     {
@@ -260,7 +263,7 @@ fn push_data<'a>(
     line: u32,
     statement: &Statement<'a>,
 ) -> Result<(), AllocError>
-    ensures { OnOk result (AddsCells line (cells (said statement.now)) output.old output.new) }
+    ensures { OnOk result (AddsCells line (cells (stmt_of statement.now)) output.old output.new) }
 {
     match *statement {
         Statement::Values { bytes, list } => output.push_values(line, bytes, list),

@@ -4,7 +4,7 @@ ghost use Rattle.alpha_asm.specs.Patches.{IsField, IsNear};
 ghost use Rattle.alpha_table.specs.Row.{IsSigned};
 ghost use Rattle.alpha_asm.specs.declared.patch.Displacement.TheVariants.{Words, Bytes};
 
-use crate::statement::Use;
+use crate::statement::RelocField;
 use alpha_table::{Form, Insn};
 use alpha_text::Expr;
 
@@ -21,14 +21,14 @@ pub enum Displacement {
 #[derive(Clone, Copy, Debug, PartialEq, Eq)]
 pub enum RelocationKind {
     /// The displacement of an instruction, which uses it so.
-    Insn(Use),
+    Insn(RelocField),
     /// A quadword, eight data bytes.
     Quad,
 }
 
 /// What an address that a statement names is for.
 #[derive(Clone, Copy, Debug, PartialEq, Eq)]
-pub enum Need {
+pub enum Target {
     /// It is put into the code or the data.
     Put(RelocationKind),
     /// It is the entry.
@@ -45,7 +45,7 @@ pub struct Patch<'a> {
     /// The line, numbered from 1.
     pub line: u32,
     /// What the address is for.
-    pub need: Need,
+    pub target: Target,
 }
 
 // The displacement in words of a branch over a distance in bytes.
@@ -93,19 +93,19 @@ fn low_half(address: u32) -> i16
     (address as i32 - 65_536 * high) as i16
 }
 
-impl Use {
+impl RelocField {
     /// The displacement by which an instruction at `pc` reaches an address, `None` exactly where it
     /// doesn't.
     pub(crate) fn displacement(self, pc: u128, address: i128) -> Option<Displacement>
         requires pc { pc ≤ 2 ^ 70 }
-        requires near { IsNear address }
+        requires in_range { IsNear address }
         ensures value { result ≡ reached self pc address }
         ensures field { IfSome result IsField }
     {
         match self {
-            Use::Branch => words_over(address - (pc as i128 + 4)),
-            Use::High => Some(Displacement::Bytes(high_half(within_halves(address)?))),
-            Use::Low => Some(Displacement::Bytes(low_half(within_halves(address)?))),
+            RelocField::Branch => words_over(address - (pc as i128 + 4)),
+            RelocField::High => Some(Displacement::Bytes(high_half(within_halves(address)?))),
+            RelocField::Low => Some(Displacement::Bytes(low_half(within_halves(address)?))),
         }
     }
 }
@@ -132,7 +132,7 @@ fn with_bytes(insn: &Insn, disp: i16) -> Insn
 }
 
 /// An instruction with another displacement, where it has one of that kind.
-pub(crate) fn displaced(insn: &Insn, displacement: Displacement) -> Insn
+pub(crate) fn with_displacement(insn: &Insn, displacement: Displacement) -> Insn
     requires { IsField displacement }
     ensures { result ≡ displaced insn.now displacement }
 {

@@ -1,10 +1,11 @@
 ghost use Rattle.std.specs.Prelude.{◌≡◌, ◌+◌, ◌<◌, ◌≤◌, ◌^◌, ℕ, length, is_some, not, if◌then◌else◌, OnOk};
-ghost use Rattle.alpha_text.specs.Statements.{said};
+ghost use Rattle.alpha_text.specs.Statements.{stmt_of};
 ghost use Rattle.alpha_text.specs.Bounds.{IsWithin};
 ghost use Rattle.alpha_image.specs.Rules.{size_of_segment};
 ghost use Rattle.alpha_asm.specs.Statement.{coded, data_size};
-ghost use Rattle.alpha_asm.specs.Layout.{start, is_data, pad, padding, spot, is_misplaced, is_misplaced_insn, behind, last_behind, filled_pad, zeroed_pad};
-ghost use Rattle.alpha_asm.specs.Place.{seen, IsSmall};
+ghost use Rattle.alpha_asm.specs.Layout.{start, is_data, pad, padding, location, is_misplaced, is_misplaced_insn};
+ghost use Rattle.alpha_asm.specs.Layout.{place_after, last_behind, filled_pad, zeroed_pad};
+ghost use Rattle.alpha_asm.specs.Place.{place_of_code, IsSmall};
 
 use crate::statement::{is_statement, level_in, section_in, segment_in, zeroed_in};
 use alpha_image::Segment;
@@ -23,7 +24,7 @@ pub enum Section {
 
 /// Where a label is defined, apart from the bases of its section.
 #[derive(Clone, Copy, Debug, PartialEq, Eq)]
-pub enum Spot {
+pub enum LabelLocation {
     /// Behind so many instructions.
     Code(u32),
     /// An offset in a segment. Segments are numbered from 0.
@@ -47,7 +48,7 @@ pub(crate) struct Place {
 }
 
 // 2^n.
-fn unit(n: u8) -> u64
+fn pow2(n: u8) -> u64
     requires { n ≤ 13 }
     ensures value { result ≡ 2 ^ n }
     ensures least { 1 ≤ result }
@@ -62,14 +63,14 @@ pub fn padding(n: u8, size: u64) -> u16
     ensures value { result ≡ padding n size }
     ensures bound { result < 8192 }
 {
-    let unit = unit(n);
+    let unit = pow2(n);
     ((unit - size % unit) % unit) as u16
 }
 
 impl Place {
     /// The place of the first item.
     pub(crate) fn start(alloc: Global) -> Place
-        ensures place { seen 0 result ≡ start }
+        ensures place { place_of_code 0 result ≡ start }
     {
         Place {
             level: None,
@@ -94,20 +95,20 @@ impl Place {
     }
 
     /// The address that a label names here, behind so many instructions.
-    pub(crate) fn spot(&self, words: usize) -> Spot
+    pub(crate) fn location(&self, words: usize) -> LabelLocation
         requires small { IsSmall self.now }
         requires words { words < 2 ^ 32 }
-        ensures { result ≡ spot (seen words self.now) }
+        ensures { result ≡ location (place_of_code words self.now) }
     {
         match self.section {
-            Section::Code => Spot::Code(words as u32),
-            Section::Data => Spot::Data(self.earlier.len() as u32, self.size()),
+            Section::Code => LabelLocation::Code(words as u32),
+            Section::Data => LabelLocation::Data(self.earlier.len() as u32, self.size()),
         }
     }
 
     /// Whether an instruction may not stand here.
     pub(crate) fn is_misplaced_insn(&self, insn: &Insn) -> bool
-        ensures { (words : ℕ) → result ≡ is_misplaced_insn (seen words self.now) insn.now }
+        ensures { (words : ℕ) → result ≡ is_misplaced_insn (place_of_code words self.now) insn.now }
     {
         self.section == Section::Data || self.level.unwrap_or(1) < level_of(insn).number()
     }
@@ -121,7 +122,7 @@ impl Place {
 
     /// Whether a statement may not stand here.
     pub(crate) fn is_misplaced(&self, statement: &Statement<'_>) -> bool
-        ensures { (words : ℕ) → result ≡ is_misplaced (seen words self.now) (said statement.now) }
+        ensures { (words : ℕ) → result ≡ is_misplaced (place_of_code words self.now) (stmt_of statement.now) }
     {
         match statement {
             Statement::Code(insn) => self.is_misplaced_insn(insn),
@@ -146,8 +147,8 @@ impl Place {
     // The zero bytes of a statement.
     fn pad(&self, statement: &Statement<'_>) -> u16
         requires small { IsSmall self.now }
-        requires within { IsWithin (said statement.now) }
-        ensures value { (words : ℕ) → result ≡ pad (seen words self.now) (said statement.now) }
+        requires within { IsWithin (stmt_of statement.now) }
+        ensures value { (words : ℕ) → result ≡ pad (place_of_code words self.now) (stmt_of statement.now) }
         ensures bound { result < 8192 }
     {
         match *statement {
@@ -159,8 +160,8 @@ impl Place {
     /// The zero bytes of a statement that are data bytes.
     pub(crate) fn filled_pad(&self, statement: &Statement<'_>) -> u16
         requires small { IsSmall self.now }
-        requires within { IsWithin (said statement.now) }
-        ensures { (words : ℕ) → result ≡ filled_pad (seen words self.now) (said statement.now) }
+        requires within { IsWithin (stmt_of statement.now) }
+        ensures { (words : ℕ) → result ≡ filled_pad (place_of_code words self.now) (stmt_of statement.now) }
     {
         if self.has_zero {
             0
@@ -172,9 +173,9 @@ impl Place {
     // The zero bytes of a statement that are zeroed bytes.
     fn zeroed_pad(&self, statement: &Statement<'_>) -> u16
         requires small { IsSmall self.now }
-        requires within { IsWithin (said statement.now) }
+        requires within { IsWithin (stmt_of statement.now) }
         ensures value { (words : ℕ) → result
-            ≡ zeroed_pad (seen words self.now) (said statement.now) }
+            ≡ zeroed_pad (place_of_code words self.now) (stmt_of statement.now) }
         ensures bound { result < 8192 }
     {
         if self.has_zero {
@@ -187,12 +188,12 @@ impl Place {
     // The segment in hand behind a statement that adds so many data bytes.
     fn last_behind(&self, statement: &Statement<'_>, added: u64) -> Segment
         requires small { IsSmall self.now }
-        requires within { IsWithin (said statement.now) }
+        requires within { IsWithin (stmt_of statement.now) }
         requires added { added
-            ≡ data_size (said statement.now) + filled_pad (seen 0 self.now) (said statement.now) }
+            ≡ data_size (stmt_of statement.now) + filled_pad (place_of_code 0 self.now) (stmt_of statement.now) }
         requires room { self.now.last.filled + added < 2 ^ 63 }
         ensures value { (words : ℕ) → result
-            ≡ last_behind (seen words self.now) (said statement.now) }
+            ≡ last_behind (place_of_code words self.now) (stmt_of statement.now) }
         ensures filled { result.filled ≤ self.now.last.filled + added }
         ensures zeroed { result.zeroed ≤ self.now.last.zeroed + 2 ^ 25 }
     {
@@ -215,13 +216,13 @@ impl Place {
     /// Goes on behind a statement that adds so many data bytes.
     pub(crate) fn go_on(&mut self, statement: &Statement<'_>, added: u64) -> Result<(), AllocError>
         requires small { IsSmall self.old }
-        requires within { IsWithin (said statement.now) }
+        requires within { IsWithin (stmt_of statement.now) }
         requires added { added
-            ≡ data_size (said statement.now) + filled_pad (seen 0 self.old) (said statement.now) }
+            ≡ data_size (stmt_of statement.now) + filled_pad (place_of_code 0 self.old) (stmt_of statement.now) }
         requires room { self.old.last.filled + added < 2 ^ 63 }
         ensures place { OnOk result ((words : ℕ) →
-            seen (words + (if is_some (coded (said statement.now)) then 1 else 0)) self.new
-            ≡ behind (seen words self.old) (said statement.now)) }
+            place_of_code (words + (if is_some (coded (stmt_of statement.now)) then 1 else 0)) self.new
+            ≡ place_after (place_of_code words self.old) (stmt_of statement.now)) }
         ensures filled { OnOk result (self.new.last.filled ≤ self.old.last.filled + added) }
         ensures zeroed { OnOk result (self.new.last.zeroed ≤ self.old.last.zeroed + 2 ^ 25) }
         ensures earlier { OnOk result (length self.new.earlier.items

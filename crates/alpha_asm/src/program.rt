@@ -6,9 +6,9 @@ ghost use Rattle.alpha_image.specs.Rules.{FieldsFit};
 ghost use Rattle.alpha_image.specs.FieldTests.{least_bad_field};
 ghost use Rattle.alpha_asm.specs.Layout.{first, layout};
 ghost use Rattle.alpha_asm.specs.Program.{program_of, version_of, based, own_segments, known, names_in, undefined_line};
-ghost use Rattle.alpha_asm.specs.Assembled.{made};
+ghost use Rattle.alpha_asm.specs.Assembled.{assembled_program};
 ghost use Rattle.alpha_asm.specs.Patches.{entry_view};
-ghost use Rattle.alpha_asm.specs.Pass.{place_of, fields_read, Sound, Leveled, Stands};
+ghost use Rattle.alpha_asm.specs.Pass.{place_of, fields_read, Sound, Leveled, PassSimulates};
 ghost use Rattle.alpha_asm.specs.Bases.{known_of};
 ghost use Rattle.alpha_asm.specs.Finished.{fields_of, finished_numbers, finished_result, IsWhole, Finishes};
 ghost use Rattle.alpha_asm.specs.declared.fault.AsmFault.TheVariants as faults;
@@ -85,7 +85,7 @@ struct Finished {
     code: Vec<Insn>,
     bytes: Vec<u8>,
     /// The line of the first address that doesn't fit.
-    unmet: Option<u32>,
+    out_of_range: Option<u32>,
 }
 
 impl Finished {
@@ -93,13 +93,13 @@ impl Finished {
     fn fault(&self) -> Option<AsmFault>
         ensures value { result
             ≡ option_or (option_map faults.ImageField (least_bad_field (finished_numbers self.now)))
-            (option_map faults.Reach self.now.unmet) }
+            (option_map faults.Reach self.now.out_of_range) }
         ensures good { IfNone result (FieldsFit (finished_numbers self.now)) }
     {
         let own = own_segments(self.level, &self.segments);
         match self.fields.bad_field(self.code.len() as u64, own) {
             Some(field) => Some(AsmFault::ImageField(field)),
-            None => match self.unmet {
+            None => match self.out_of_range {
                 Some(line) => Some(AsmFault::Reach(line)),
                 None => None,
             },
@@ -123,7 +123,7 @@ impl Finished {
             segments,
             code,
             bytes,
-            unmet: _,
+            out_of_range: _,
         } = self;
         insns_fit(&code);
         let own = own_segments(level, &segments);
@@ -136,14 +136,14 @@ impl Finished {
 /// # Errors
 ///
 /// `NoEntry`, `Undefined`, `ImageField` or `Reach`, the first in this order.
-pub(crate) fn made<'a>(pass: Pass<'a>) -> Result<(Image, Labels<'a>), AsmFault>
+pub(crate) fn assembled_program<'a>(pass: Pass<'a>) -> Result<(Image, Labels<'a>), AsmFault>
     requires sound { Sound (place_of pass) (length pass.output.bytes.items) }
     requires leveled { Leveled (place_of pass) pass.output.code.items }
-    ensures ok { IfOk result (λ r. (is : _) → Stands is pass.entry
-        → made is ≡ Ok (program_of r.0)) }
+    ensures ok { IfOk result (λ r. (is : _) → PassSimulates is pass.entry
+        → assembled_program is ≡ Ok (program_of r.0)) }
     ensures labels { IfOk result (λ r. r.1 ≡ pass.entry.labels) }
     ensures refused { IfErr result (λ fault. fault ≢ faults.NoMemory →
-        (is : _) → Stands is pass.entry → made is ≡ Err fault) }
+        (is : _) → PassSimulates is pass.entry → assembled_program is ≡ Err fault) }
 {
     match pass.fields.entry {
         Some(entry) => match finish(pass, &entry) {
@@ -180,11 +180,11 @@ fn finish<'a>(pass: Pass<'a>, entry: &Entry<'a>) -> Result<(Finished, Labels<'a>
     requires sound { Sound (place_of pass) (length pass.output.bytes.items) }
     requires leveled { Leveled (place_of pass) pass.output.code.items }
     ensures whole { IfOk result (λ r. IsWhole r.0) }
-    ensures ok { IfOk result (λ r. (is : _) → Stands is pass.entry →
+    ensures ok { IfOk result (λ r. (is : _) → PassSimulates is pass.entry →
         Finishes is (entry_view entry.now) r.0) }
     ensures labels { IfOk result (λ r. r.1 ≡ pass.entry.labels) }
     ensures undefined { IfErr result (λ fault. fault ≢ faults.NoMemory → (is : _)
-        → Stands is pass.entry
+        → PassSimulates is pass.entry
         → option_map faults.Undefined
         (first (undefined_line (known is)) (flat_map names_in (layout is))) ≡ Some fault) }
 {
@@ -208,7 +208,7 @@ fn finish<'a>(pass: Pass<'a>, entry: &Entry<'a>) -> Result<(Finished, Labels<'a>
                 segments,
                 code,
                 bytes,
-                unmet,
+                out_of_range: unmet,
             };
             Ok((finished, pass.labels))
         }

@@ -1,7 +1,8 @@
 ghost use Rattle.std.specs.Prelude.{◌≡◌};
 ghost use Rattle.std.specs.Option.{option_map};
-ghost use Rattle.alpha_text.specs.Statements.{said};
-ghost use Rattle.alpha_asm.specs.Statement.{suits, coded, section_in, level_in, segment_in, zeroed_in, is_statement};
+ghost use Rattle.alpha_text.specs.Statements.{stmt_of};
+ghost use Rattle.alpha_asm.specs.Statement.{applies_to, coded, section_in, level_in, segment_in, zeroed_in};
+ghost use Rattle.alpha_asm.specs.Statement.{is_statement};
 ghost use Rattle.alpha_asm.specs.Patches.{coded_of};
 
 use crate::place::Section;
@@ -10,7 +11,7 @@ use alpha_text::{Expr, Statement};
 
 /// How an instruction uses the address of a label.
 #[derive(Clone, Copy, Debug, PartialEq, Eq)]
-pub enum Use {
+pub enum RelocField {
     /// It branches there.
     Branch,
     /// Its displacement is the high half of the address, rounded so that the low half is signed.
@@ -19,16 +20,16 @@ pub enum Use {
     Low,
 }
 
-impl Use {
+impl RelocField {
     /// Whether an instruction is of the kind that this use is for: a branch, an LDAH, an LDA.
     #[inline]
-    pub fn suits(self, insn: &Insn) -> bool
-        ensures { result ≡ suits self insn.now }
+    pub fn applies_to(self, insn: &Insn) -> bool
+        ensures { result ≡ applies_to self insn.now }
     {
         match (self, insn.form()) {
-            (Use::Branch, Form::Branch { .. }) => true,
-            (Use::High, Form::Mem { op, .. }) => op == MemOp::Ldah,
-            (Use::Low, Form::Mem { op, .. }) => op == MemOp::Lda,
+            (RelocField::Branch, Form::Branch { .. }) => true,
+            (RelocField::High, Form::Mem { op, .. }) => op == MemOp::Ldah,
+            (RelocField::Low, Form::Mem { op, .. }) => op == MemOp::Lda,
             _ => false,
         }
     }
@@ -36,28 +37,28 @@ impl Use {
 
 /// An instruction, and what its displacement is to reach.
 #[derive(Clone, Copy, Debug)]
-pub(crate) struct Coded<'a> {
+pub(crate) struct InsnStmt<'a> {
     pub insn: Insn,
-    pub reach: Option<(Use, Expr<'a>)>,
+    pub reach: Option<(RelocField, Expr<'a>)>,
 }
 
 /// The instruction of a statement.
-pub(crate) fn coded_in<'a>(statement: &Statement<'a>) -> Option<Coded<'a>>
-    ensures { option_map coded_of result ≡ coded (said statement.now) }
+pub(crate) fn coded_in<'a>(statement: &Statement<'a>) -> Option<InsnStmt<'a>>
+    ensures { option_map coded_of result ≡ coded (stmt_of statement.now) }
 {
     match *statement {
-        Statement::Code(insn) => Some(Coded { insn, reach: None }),
-        Statement::Target { insn, target } => Some(Coded {
+        Statement::Code(insn) => Some(InsnStmt { insn, reach: None }),
+        Statement::Target { insn, target } => Some(InsnStmt {
             insn,
-            reach: Some((Use::Branch, target)),
+            reach: Some((RelocField::Branch, target)),
         }),
-        Statement::High { insn, address } => Some(Coded {
+        Statement::High { insn, address } => Some(InsnStmt {
             insn,
-            reach: Some((Use::High, address)),
+            reach: Some((RelocField::High, address)),
         }),
-        Statement::Low { insn, address } => Some(Coded {
+        Statement::Low { insn, address } => Some(InsnStmt {
             insn,
-            reach: Some((Use::Low, address)),
+            reach: Some((RelocField::Low, address)),
         }),
         _ => None,
     }
@@ -65,7 +66,7 @@ pub(crate) fn coded_in<'a>(statement: &Statement<'a>) -> Option<Coded<'a>>
 
 /// The section that a statement turns to.
 pub(crate) fn section_in(statement: &Statement<'_>) -> Option<Section>
-    ensures { result ≡ section_in (said statement.now) }
+    ensures { result ≡ section_in (stmt_of statement.now) }
 {
     match *statement {
         Statement::CodeSection => Some(Section::Code),
@@ -76,7 +77,7 @@ pub(crate) fn section_in(statement: &Statement<'_>) -> Option<Section>
 
 /// The level of a `.level`.
 pub(crate) fn level_in(statement: &Statement<'_>) -> Option<u8>
-    ensures { result ≡ level_in (said statement.now) }
+    ensures { result ≡ level_in (stmt_of statement.now) }
 {
     match *statement {
         Statement::Level(n) => Some(n),
@@ -86,7 +87,7 @@ pub(crate) fn level_in(statement: &Statement<'_>) -> Option<u8>
 
 /// The base of a segment that begins.
 pub(crate) fn segment_in(statement: &Statement<'_>) -> Option<u64>
-    ensures { result ≡ segment_in (said statement.now) }
+    ensures { result ≡ segment_in (stmt_of statement.now) }
 {
     match *statement {
         Statement::Segment(base) => Some(base),
@@ -96,7 +97,7 @@ pub(crate) fn segment_in(statement: &Statement<'_>) -> Option<u64>
 
 /// The zeroed bytes that a `.zero` asks for.
 pub(crate) fn zeroed_in(statement: &Statement<'_>) -> Option<u32>
-    ensures { result ≡ zeroed_in (said statement.now) }
+    ensures { result ≡ zeroed_in (stmt_of statement.now) }
 {
     match *statement {
         Statement::Zero(n) => Some(n),
@@ -106,7 +107,7 @@ pub(crate) fn zeroed_in(statement: &Statement<'_>) -> Option<u32>
 
 /// Whether there is a statement at all.
 pub(crate) fn is_statement(statement: &Statement<'_>) -> bool
-    ensures { result ≡ is_statement (said statement.now) }
+    ensures { result ≡ is_statement (stmt_of statement.now) }
 {
     !matches!(*statement, Statement::Empty)
 }

@@ -1,6 +1,6 @@
 ghost use Rattle.std.specs.Prelude.{◌≡◌, ◌≢◌, ◌<◌, ◌^◌, length, map, Ok, Err, IfOk, IfErr};
 ghost use Rattle.std.specs.Str.Lines.{lines};
-ghost use Rattle.alpha_asm.specs.Layout.{layout, spot_of, is_of_code};
+ghost use Rattle.alpha_asm.specs.Layout.{layout, location_of, is_of_code};
 ghost use Rattle.alpha_asm.specs.LineKinds.{kinds_of};
 ghost use Rattle.alpha_asm.specs.Program.{program_of};
 ghost use Rattle.alpha_asm.specs.Assembled.{item_at, assembled};
@@ -11,8 +11,8 @@ use crate::assembler::read_lines;
 use crate::kind::SourceKind;
 use crate::label::Labels;
 use crate::line_kind::{LineKind, LineKinds};
-use crate::place::Spot;
-use crate::program::made;
+use crate::place::LabelLocation;
+use crate::program::assembled_program;
 use alpha_image::Image;
 use std::alloc::Global;
 use std::marker::Model;
@@ -55,7 +55,7 @@ pub fn assemble_with_symbols<'a>(
 {
     let mut kinds = LineKinds::gathered(alloc);
     let pass = read_lines(alloc, SourceKind::Program, source, &mut kinds)?;
-    let (image, labels) = made(pass)?;
+    let (image, labels) = assembled_program(pass)?;
     let kinds = kinds.items;
     Ok((
         image,
@@ -70,11 +70,11 @@ pub fn assemble_with_symbols<'a>(
 impl<'a> Symbols<'a> {
     /// Whether a label names a word of the code.
     pub fn names_code(&self, label: &'a [u8]) -> bool
-        ensures { result ≡ is_of_code (spot_of (layout (map item_at (lines self.now))) label.now) }
+        ensures { result ≡ is_of_code (location_of (layout (map item_at (lines self.now))) label.now) }
     {
-        match self.labels.spot(label) {
-            Some(Spot::Code(_)) => true,
-            Some(Spot::Data(..)) | None => false,
+        match self.labels.location(label) {
+            Some(LabelLocation::Code(_)) => true,
+            Some(LabelLocation::Data(..)) | None => false,
         }
     }
 

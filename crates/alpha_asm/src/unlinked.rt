@@ -5,8 +5,8 @@ ghost use Rattle.alpha_words.specs.declared.Level.TheVariants.{One};
 ghost use Rattle.alpha_image.specs.Insns.{IsCodeInsn};
 ghost use Rattle.alpha_asm.specs.Layout.{end};
 ghost use Rattle.alpha_asm.specs.Assembled.{item_at, first_refused};
-ghost use Rattle.alpha_asm.specs.Pass.{Stands};
-ghost use Rattle.alpha_asm.specs.Unlinked.{Makes, IsUnlinked};
+ghost use Rattle.alpha_asm.specs.Pass.{PassSimulates};
+ghost use Rattle.alpha_asm.specs.Unlinked.{IsUnlinkedOf, IsUnlinked};
 ghost use Rattle.alpha_asm.specs.declared.fault.AsmFault.TheVariants as faults;
 ghost use Rattle.alpha_asm.specs.declared.kind.SourceKind.TheVariants as kinds;
 
@@ -47,7 +47,7 @@ impl<'a> Unlinked<'a> {
     /// The refusal of the least line that is refused. `NoMemory` may come in place of any answer.
     pub fn of(alloc: Global, source: &'a [u8]) -> Result<Unlinked<'a>, AsmFault>
         requires { length source.now < 2 ^ 32 }
-        ensures makes { IfOk result (Makes (map item_at (lines source.now))) }
+        ensures makes { IfOk result (IsUnlinkedOf (map item_at (lines source.now))) }
         ensures few { IfOk result (λ made. length made.bytes.items ≤ made.filled) }
         ensures level { IfOk result (λ made. All (IsCodeInsn One) made.code.items) }
         ensures good { OnOk result (AllByRecursion IsUnlinked (map item_at (lines source.now))) }
@@ -57,14 +57,14 @@ impl<'a> Unlinked<'a> {
     {
         let mut kinds = LineKinds::none(alloc);
         let pass = read_lines(alloc, SourceKind::Module, source, &mut kinds)?;
-        Ok(Unlinked::behind(pass)?)
+        Ok(Unlinked::of_pass(pass)?)
     }
 
     // What a pass has made.
-    fn behind(pass: Pass<'a>) -> Result<Unlinked<'a>, AllocError>
-        ensures makes { IfOk result (λ made. (is : _) → Stands is pass.entry → Makes is made) }
+    fn of_pass(pass: Pass<'a>) -> Result<Unlinked<'a>, AllocError>
+        ensures makes { IfOk result (λ made. (is : _) → PassSimulates is pass.entry → IsUnlinkedOf is made) }
         ensures few { IfOk result (λ made. length made.bytes.items ≤ made.filled) }
-        ensures level { IfOk result (λ made. (is : _) → Stands is pass.entry
+        ensures level { IfOk result (λ made. (is : _) → PassSimulates is pass.entry
             → (end is).level ≡ None
             → All (IsCodeInsn One) made.code.items) }
     {

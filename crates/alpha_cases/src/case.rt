@@ -136,8 +136,8 @@ impl<'a> Scene<'a> {
     // Takes an entry of the case.
     fn take(&mut self, alloc: Global, entry: Entry<'a>) -> anyhow::Result<()> {
         if is_file(entry.name) {
-            let (name, said) = entry.rest.split_once(" ").unwrap_or((entry.rest, ""));
-            let bytes = self.bytes_said(alloc, &entry, said)?;
+            let (name, stmt) = entry.rest.split_once(" ").unwrap_or((entry.rest, ""));
+            let bytes = self.bytes_said(alloc, &entry, stmt)?;
             self.files.push(File { name, bytes })?;
             return Ok(());
         }
@@ -152,17 +152,17 @@ impl<'a> Scene<'a> {
     }
 
     // The bytes of a file, by an entry and what stands behind the file's name.
-    fn bytes_said(&self, alloc: Global, entry: &Entry<'_>, said: &str) -> anyhow::Result<Vec<u8>> {
+    fn bytes_said(&self, alloc: Global, entry: &Entry<'_>, stmt: &str) -> anyhow::Result<Vec<u8>> {
         let block = entry.block.as_bytes();
         match entry.name {
             "source" => image_of(alloc, block),
             "module" => module_of(alloc, block),
             "text" => Ok(block.to_vec(alloc)?),
-            "spelled" => spelled(alloc, said),
-            "bytes" => bytes_of(alloc, said),
-            "changed" => self.changed(alloc, said),
-            "front" => self.front(alloc, said),
-            "zeros" => Ok(vec![in alloc; 0; number_of(said)? as usize]?),
+            "spelled" => spelled(alloc, stmt),
+            "bytes" => bytes_of(alloc, stmt),
+            "changed" => self.changed(alloc, stmt),
+            "front" => self.front(alloc, stmt),
+            "zeros" => Ok(vec![in alloc; 0; number_of(stmt)? as usize]?),
             "choices" => choices_of(alloc, &entry.block),
             _ => bail!("what is {}?", entry.name),
         }

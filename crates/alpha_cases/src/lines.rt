@@ -56,8 +56,8 @@ pub fn bytes_of(alloc: Global, digits: &str) -> anyhow::Result<Vec<u8>> {
     }
 }
 
-/// The bytes that a text spells, in which `\n`, `\r` and `\t` stand for a line feed, a carriage return and a tab, and any
-/// other byte behind a `\` for itself.
+/// The bytes that a text spells, in which `\n`, `\r` and `\t` stand for a line feed, a carriage return and a tab, and
+/// any other byte behind a `\` for itself.
 pub fn spelled(alloc: Global, text: &str) -> anyhow::Result<Vec<u8>> {
     let mut bytes = Vec::new(alloc);
     let mut escaped = false;

@@ -1,12 +1,13 @@
 -- From a run that a device's fault cut short to what a command tries then.
-use Rattle.std.proofs.Common.{◌≡◌, ◌≢◌, ◌⊎◌, None, Result, Ok, Err, IfOk, IsTrue, IsSome, refl, sym, ap, subst, inl, inr, ⊎_elim, append-nil, arith}
+use Rattle.std.proofs.Common.{◌≡◌, ◌≢◌, ◌⊎◌, None, Result, Ok, Err, IfOk, IsTrue, IsSome, refl, sym, ap, subst, inl}
+use Rattle.std.proofs.Common.{inr, ⊎_elim, append-nil, arith}
 use Rattle.alpha_io.specs.declared.Failed.{Failed}
-use Rattle.alpha_io.specs.Faults.{Rose}
+use Rattle.alpha_io.specs.Faults.{Faulted}
 use Rattle.alpha_io.specs.Files.{KeepsFiles}
-use Rattle.alpha_io.specs.Shelved.{Shelved}
-use Rattle.alpha_io.specs.Sunk.{Sunk}
+use Rattle.alpha_io.specs.ShelfChange.{ShelfChange}
+use Rattle.alpha_io.specs.SinkChange.{SinkChange}
 use Rattle.alpha_io.specs.Written.{WritesPrefix}
-use Rattle.alpha_io.proofs.Sinks.{Partly-more}
+use Rattle.alpha_io.proofs.Sinks.{WritesPartly-more}
 use Rattle.alpha_pal.specs.declared.fault.Fault.{Fault}
 use Rattle.alpha_pal.specs.declared.fault.Fault.TheVariants as faults
 use Rattle.alpha_seq.specs.Devices.{Drawn, HasInputFault, HasOutputFault, HasNotesFault}
@@ -16,26 +17,37 @@ use Rattle.alpha_cmd.specs.declared.status.Status.TheVariants.{InputFault, SinkF
 use Rattle.alpha_cmd.specs.Status.{status_line}
 use Rattle.alpha_cmd.specs.Kept.{Kept, nothing, HasKept}
 use Rattle.alpha_cmd.specs.Answer.{Answer}
-use Rattle.alpha_cmd.specs.AnswerBy.{World, AnswerBy, said}
+use Rattle.alpha_cmd.specs.AnswerBy.{World, AnswerBy, status_answer}
 use Rattle.alpha_cmd.specs.Form.{Form, Kind, MayTakeBy}
 use Rattle.alpha_cmd.specs.Decision.{IsCutShort}
-use Rattle.alpha_cmd.specs.Ends.{EndsPart, Leaves, Decides, status_in}
-use Rattle.alpha_cmd.specs.Tries.{TriesBy, CountStays}
+use Rattle.alpha_cmd.specs.Ends.{EndsPart, Leaves, OutcomeOrFault, status_in}
+use Rattle.alpha_cmd.specs.Attempts.{AttemptBy, CountStays}
 
--- Fronts of what some answer of a command has were written. The command keeps no file, or it keeps one behind its streams.
-pub record Fronts (f : Form) (w : World) (out notes : Sunk) : Type 0 where
+-- Fronts of what some answer of a command has were written. The command keeps no file, or it keeps one behind its
+-- streams.
+pub record AttemptPrefixes (f : Form) (w : World) (out notes : SinkChange) : Type 0 where
   pub answer : Answer
   pub kept : (answer.kept ≡ nothing) ⊎ IsSome f.kind.keeps
   pub is : AnswerBy f.steps w answer
   pub bytes : WritesPrefix out.old out.new answer.output
   pub lines : WritesPrefix notes.old notes.new answer.trace
 
-module _ (shelf : Type 0) (f : Form) (w : World) (takes : IsTrue f.kind.takes) (s : Shelved) (same : KeepsFiles s.old s.new) (d : Drawn) (out notes : Sunk) (fronts : Fronts f w out notes) where
+module _ (shelf : Type 0) (f : Form) (w : World) (takes : IsTrue f.kind.takes) (s : ShelfChange)
+    (same : KeepsFiles s.old s.new) (d : Drawn) (out notes : SinkChange) (fronts : AttemptPrefixes f w out notes) where
   -- one whose input failed, with the line of the fault still to be written
-  starved_tried : HasInputFault d out notes → Leaves (TriesBy shelf (Rose d.before d.now) f w) (said d.new.left InputFault (status_line InputFault)) s out notes
+  starved_tried : HasInputFault d out notes
+      → Leaves (AttemptBy shelf (Faulted d.before d.now) f w)
+      (status_answer d.new.left InputFault (status_line InputFault)) s out notes
   starved_tried fault =
       let line = status_line InputFault in
-      let t : Answer = record { status = InputFault; output = fronts.bytes.done; trace = fronts.lines.done; line = line; left = None; kept = nothing } in
+      let t : Answer = record {
+        status = InputFault;
+        output = fronts.bytes.done;
+        trace = fronts.lines.done;
+        line = line;
+        left = None;
+        kept = nothing;
+      } in
       record {
         tried = t;
         is = inr (inr (inl (record {
@@ -62,27 +74,36 @@ module _ (shelf : Type 0) (f : Form) (w : World) (takes : IsTrue f.kind.takes) (
       }
 
   -- one for which a sink failed, by what it tried
-  part_tried : (t : Answer) → TriesBy shelf (Rose d.before d.now) f w t → HasKept t.kept s → t.output ≡ fronts.answer.output → t.trace ≡ fronts.answer.trace
-      → HasOutputFault d out notes ⊎ HasNotesFault d out notes → EndsPart (TriesBy shelf (Rose d.before d.now) f w) s out notes
+  part_tried : (t : Answer) → AttemptBy shelf (Faulted d.before d.now) f w t → HasKept t.kept s
+      → t.output ≡ fronts.answer.output → t.trace ≡ fronts.answer.trace
+      → HasOutputFault d out notes ⊎ HasNotesFault d out notes
+      → EndsPart (AttemptBy shelf (Faulted d.before d.now) f w) s out notes
   part_tried t is files output trace fault = record {
     tried = t;
     is = is;
     files = files;
     output = record {
       prefix = subst (WritesPrefix out.old out.new) (sym output) fronts.bytes;
-      later = ⊎_elim (λ (h : HasOutputFault d out notes). h.later) (λ (h : HasNotesFault d out notes). omega (arith, h.sink)) fault;
+      later =
+          ⊎_elim (λ (h : HasOutputFault d out notes). h.later)
+          (λ (h : HasNotesFault d out notes). omega (arith, h.sink)) fault;
     };
-    line = Partly-more notes t.trace t.line (record {
+    line = WritesPartly-more notes t.trace t.line (record {
       prefix = subst (WritesPrefix notes.old notes.new) (sym trace) fronts.lines;
-      later = ⊎_elim (λ (h : HasOutputFault d out notes). omega (arith, h.lines)) (λ (h : HasNotesFault d out notes). h.later) fault;
+      later =
+          ⊎_elim (λ (h : HasOutputFault d out notes). omega (arith, h.lines))
+          (λ (h : HasNotesFault d out notes). h.later) fault;
     });
-    failed = ⊎_elim (λ (h : HasOutputFault d out notes). inl h.sink) (λ (h : HasNotesFault d out notes). inr h.lines) fault;
+    failed =
+        ⊎_elim (λ (h : HasOutputFault d out notes). inl h.sink) (λ (h : HasNotesFault d out notes). inr h.lines) fault;
   }
 
-  unwritten_tried : HasOutputFault d out notes ⊎ HasNotesFault d out notes → EndsPart (TriesBy shelf (Rose d.before d.now) f w) s out notes
+  unwritten_tried : HasOutputFault d out notes ⊎ HasNotesFault d out notes
+      → EndsPart (AttemptBy shelf (Faulted d.before d.now) f w) s out notes
   unwritten_tried fault =
       ⊎_elim
-      (λ (none : fronts.answer.kept ≡ nothing). part_tried fronts.answer (inl fronts.is) (subst (λ (k : Kept). HasKept k s) (sym none) same) refl refl fault)
+      (λ (none : fronts.answer.kept ≡ nothing).
+      part_tried fronts.answer (inl fronts.is) (subst (λ (k : Kept). HasKept k s) (sym none) same) refl refl fault)
       (λ (keeps : IsSome f.kind.keeps).
       part_tried (record fronts.answer { status = NoMemory; line = status_line NoMemory; kept = nothing })
       (inr (inr (inr (record {
@@ -95,9 +116,11 @@ module _ (shelf : Type 0) (f : Form) (w : World) (takes : IsTrue f.kind.takes) (
       })))) same refl refl fault)
       fronts.kept
 
-  pub cut_tried : (fault : Fault) (r : Result Decision Failed) → IsCutShort fault r → Causes fault d out notes → Decides (TriesBy shelf (Rose d.before d.now) f w) r d.new.left s out notes
+  pub cut_tried : (fault : Fault) (r : Result Decision Failed) → IsCutShort fault r → Causes fault d out notes
+      → OutcomeOrFault (AttemptBy shelf (Faulted d.before d.now) f w) r d.new.left s out notes
   cut_tried faults.Input (Ok decision) says cause =
-      subst (λ (rest : Answer). Leaves (TriesBy shelf (Rose d.before d.now) f w) rest s out notes) (sym (says d.new.left)) (starved_tried cause)
+      subst (λ (rest : Answer). Leaves (AttemptBy shelf (Faulted d.before d.now) f w) rest s out notes)
+      (sym (says d.new.left)) (starved_tried cause)
   cut_tried faults.Input (Err failed) says cause = absurd says
   cut_tried faults.Output (Ok decision) says cause = absurd says
   cut_tried faults.Output (Err failed) says cause = unwritten_tried (inl cause)
@@ -107,7 +130,8 @@ module _ (shelf : Type 0) (f : Form) (w : World) (takes : IsTrue f.kind.takes) (
 -- ---- its status
 
 -- it is that of a fault of the input or of a sink
-pub cut_status : (fault : Fault) (r : Result Decision Failed) → IsCutShort fault r → (status_in r ≡ InputFault) ⊎ (status_in r ≡ SinkFault)
+pub cut_status : (fault : Fault) (r : Result Decision Failed) → IsCutShort fault r
+    → (status_in r ≡ InputFault) ⊎ (status_in r ≡ SinkFault)
 cut_status faults.Input (Ok decision) says = inl (ap (λ (a : Answer). a.status) (says None))
 cut_status faults.Input (Err failed) says = absurd says
 cut_status faults.Output (Ok decision) says = absurd says
@@ -115,15 +139,23 @@ cut_status faults.Output (Err failed) says = inr refl
 cut_status faults.Notes (Ok decision) says = absurd says
 cut_status faults.Notes (Err failed) says = inr refl
 
-pub cut_takes : (k : Kind) → IsTrue k.takes → (fault : Fault) (r : Result Decision Failed) → IsCutShort fault r → MayTakeBy k (status_in r)
+pub cut_takes : (k : Kind) → IsTrue k.takes → (fault : Fault) (r : Result Decision Failed) → IsCutShort fault r
+    → MayTakeBy k (status_in r)
 cut_takes k takes fault r says =
-    ⊎_elim (λ (is : status_in r ≡ InputFault). (takes, inr (inl is))) (λ (is : status_in r ≡ SinkFault). (takes, inr (inr (inl is)))) (cut_status fault r says)
+    ⊎_elim (λ (is : status_in r ≡ InputFault). (takes, inr (inl is)))
+    (λ (is : status_in r ≡ SinkFault). (takes, inr (inr (inl is)))) (cut_status fault r says)
 
-pub cut_counts : (fault : Fault) (r : Result Decision Failed) (d : Drawn) (out notes : Sunk) → IsCutShort fault r → Causes fault d out notes
+pub cut_counts : (fault : Fault) (r : Result Decision Failed) (d : Drawn) (out notes : SinkChange) → IsCutShort fault r
+    → Causes fault d out notes
     → CountStays d (IfOk r (λ decision. decision.status ≢ InputFault))
-cut_counts faults.Input (Ok decision) d out notes says cause = record { later = cause.later; calm = λ other. absurd (other (ap (λ (a : Answer). a.status) (says None))) }
+cut_counts faults.Input (Ok decision) d out notes says cause = record {
+  later = cause.later;
+  faults_unchanged = λ other. absurd (other (ap (λ (a : Answer). a.status) (says None)));
+}
 cut_counts faults.Input (Err failed) d out notes says cause = absurd says
 cut_counts faults.Output (Ok decision) d out notes says cause = absurd says
-cut_counts faults.Output (Err failed) d out notes says cause = record { later = omega (arith, cause.source); calm = λ other. cause.source }
+cut_counts faults.Output (Err failed) d out notes says cause =
+    record { later = omega (arith, cause.source); faults_unchanged = λ other. cause.source }
 cut_counts faults.Notes (Ok decision) d out notes says cause = absurd says
-cut_counts faults.Notes (Err failed) d out notes says cause = record { later = omega (arith, cause.source); calm = λ other. cause.source }
+cut_counts faults.Notes (Err failed) d out notes says cause =
+    record { later = omega (arith, cause.source); faults_unchanged = λ other. cause.source }

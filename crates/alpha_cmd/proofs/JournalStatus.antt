@@ -1,13 +1,14 @@
 -- The statuses of `record`, and what becomes of files under them.
-use Rattle.std.proofs.Common.{◌≡◌, ◌≢◌, ◌⊎◌, ◌∙◌, ℕ, ◌%◌, ◌^◌, Bool, true, false, List, Option, None, Some, refl, sym, ap, subst, inl, inr}
+use Rattle.std.proofs.Common.{◌≡◌, ◌≢◌, ◌⊎◌, ◌∙◌, ℕ, ◌%◌, ◌^◌, Bool, true, false, List, Option, None, Some, refl, sym}
+use Rattle.std.proofs.Common.{ap, subst, inl, inr}
 use Rattle.alpha_io.specs.Files.{HasFile}
-use Rattle.alpha_io.specs.Shelved.{Shelved}
-use Rattle.alpha_io.specs.Sunk.{Sunk}
+use Rattle.alpha_io.specs.ShelfChange.{ShelfChange}
+use Rattle.alpha_io.specs.SinkChange.{SinkChange}
 use Rattle.alpha_request.specs.declared.options.RunOptions.{RunOptions}
 use Rattle.alpha_request.specs.Origin as choices
 use Rattle.alpha_seq.specs.declared.end.End.{End}
 use Rattle.alpha_seq.specs.declared.end.End.TheVariants as ended_by
-use Rattle.alpha_imprecise.specs.Made.{LostTrap}
+use Rattle.alpha_imprecise.specs.ChosenRun.{LostTrap}
 use Rattle.alpha_replay.specs.Journal.{Parts, spelling}
 use Rattle.alpha_cmd.specs.declared.decision.Decision.{Decision}
 use Rattle.alpha_cmd.specs.declared.status.Status.{Status}
@@ -19,10 +20,11 @@ use Rattle.alpha_cmd.specs.Decision.{SaysAlone}
 use Rattle.alpha_cmd.specs.Form.{MayTakeBy, SparesBy}
 use Rattle.alpha_cmd.specs.Stage.{StopsBy, stop_status, stop_line}
 use Rattle.alpha_cmd.specs.Status.{done, refused, ended, class_of}
-use Rattle.alpha_cmd.specs.Commands.Imprecise.{Plan, drawn_status, wild_status, Planned}
-use Rattle.alpha_cmd.specs.Commands.Record.{unwatched, IsEndStatus, kind, there, RunsOn, IsOver, KeptBehind, stands, untaken, lost, spent}
-use Rattle.alpha_cmd.proofs.Commands.Imprecise.{may_lose, wild_plain}
-use Rattle.alpha_cmd.proofs.Commands.Record.{lawful}
+use Rattle.alpha_cmd.specs.Commands.Imprecise.{Plan, drawn_status, imprecise_status, Planned}
+use Rattle.alpha_cmd.specs.Commands.Record.{unwatched, IsEndStatus, kind, there, RunsOn, IsOver, KeptBehind, stands}
+use Rattle.alpha_cmd.specs.Commands.Record.{untaken, lost, spent}
+use Rattle.alpha_cmd.proofs.Commands.Imprecise.{MayShowImprecise-MayLose, imprecise-plain}
+use Rattle.alpha_cmd.proofs.Commands.Record.{record_form-lawful}
 use Rattle.alpha_cmd.proofs.Forms.{is_fault}
 use Rattle.alpha_cmd.proofs.Lawful.{IsRefusal}
 
@@ -32,48 +34,60 @@ drawn_ends : (n : ℕ) (end : End) → (class_of (drawn_status n end) ≡ done) 
 drawn_ends n (ended_by.Exit v) = inl refl
 drawn_ends n end = inr refl
 
-wild_ends : (end : Option End) (trap : Option LostTrap) (n : ℕ) → (class_of (wild_status end trap n) ≡ done) ⊎ (class_of (wild_status end trap n) ≡ ended)
-wild_ends (Some end) trap n = drawn_ends n end
-wild_ends None (Some t) n = inr refl
-wild_ends None None n = inr refl
+imprecise_ends_as : (end : Option End) (trap : Option LostTrap) (n : ℕ)
+    → (class_of (imprecise_status end trap n) ≡ done) ⊎ (class_of (imprecise_status end trap n) ≡ ended)
+imprecise_ends_as (Some end) trap n = drawn_ends n end
+imprecise_ends_as None (Some t) n = inr refl
+imprecise_ends_as None None n = inr refl
 
 -- a refusal, or a shelf's fault
-not_class : (s : Status) → (class_of s ≡ done) ⊎ (class_of s ≡ ended) → (class_of s ≡ refused) ⊎ (is_fault s ≡ true) → is_fault s ≡ false → ⊥
+not_class : (s : Status) → (class_of s ≡ done) ⊎ (class_of s ≡ ended) → (class_of s ≡ refused) ⊎ (is_fault s ≡ true)
+    → is_fault s ≡ false → ⊥
 not_class s (inl h) (inl g) calm = let e : done ≡ refused = sym h ∙ g in cc
 not_class s (inr h) (inl g) calm = let e : ended ≡ refused = sym h ∙ g in cc
 not_class s h (inr g) calm = let e : true ≡ false = sym g ∙ calm in cc
 
-pub no_end : (end : Option End) (trap : Option LostTrap) (n : ℕ) (s : Status) → s ≡ wild_status end trap n → (class_of s ≡ refused) ⊎ (is_fault s ≡ true) → ⊥
-no_end end trap n s e h =
-    not_class s (subst (λ (x : Status). (class_of x ≡ done) ⊎ (class_of x ≡ ended)) (sym e) (wild_ends end trap n)) h (ap is_fault e ∙ wild_plain end trap n)
+pub journal_status-no_end : (end : Option End) (trap : Option LostTrap) (n : ℕ) (s : Status)
+    → s ≡ imprecise_status end trap n → (class_of s ≡ refused) ⊎ (is_fault s ≡ true) → ⊥
+journal_status-no_end end trap n s e h =
+    not_class s
+    (subst (λ (x : Status). (class_of x ≡ done) ⊎ (class_of x ≡ ended)) (sym e) (imprecise_ends_as end trap n)) h
+    (ap is_fault e ∙ imprecise-plain end trap n)
 
 drawn_not_full : (n : ℕ) (end : End) → drawn_status n end ≢ JournalFull
 drawn_not_full n (ended_by.Exit v) e = cc
 drawn_not_full n end e = cc
 
-not_full : (end : Option End) (trap : Option LostTrap) (n : ℕ) → wild_status end trap n ≢ JournalFull
+not_full : (end : Option End) (trap : Option LostTrap) (n : ℕ) → imprecise_status end trap n ≢ JournalFull
 not_full (Some end) trap n e = drawn_not_full n end e
 not_full None (Some t) n e = cc
 not_full None None n e = cc
 
 -- a run that wasn't made
-pub over_no_end : (end : Option End) (trap : Option LostTrap) (n : ℕ) (s : Status) → s ≡ wild_status end trap n → IsOver s → ⊥
+pub over_no_end : (end : Option End) (trap : Option LostTrap) (n : ℕ) (s : Status) → s ≡ imprecise_status end trap n
+    → IsOver s → ⊥
 over_no_end end trap n s e (inl h) = not_full end trap n (sym e ∙ h)
-over_no_end end trap n s e (inr (inl h)) = no_end end trap n s e (inr (ap is_fault h))
-over_no_end end trap n s e (inr (inr (inl h))) = no_end end trap n s e (inr (ap is_fault h))
-over_no_end end trap n s e (inr (inr (inr h))) = no_end end trap n s e (inr (ap is_fault h))
+over_no_end end trap n s e (inr (inl h)) = journal_status-no_end end trap n s e (inr (ap is_fault h))
+over_no_end end trap n s e (inr (inr (inl h))) = journal_status-no_end end trap n s e (inr (ap is_fault h))
+over_no_end end trap n s e (inr (inr (inr h))) = journal_status-no_end end trap n s e (inr (ap is_fault h))
 
 -- one that wasn't begun
-pub stopped_no_end : (options : RunOptions) (drawn : choices.Origin) (force : Bool) (file out : List ℕ) (w : World) (shelf : Type 0) (end : Option End) (trap : Option LostTrap) (n : ℕ) (stop : Stop)
-    → stop_status stop ≡ wild_status end trap n → StopsBy (Planned drawn force file w.files) shelf stop → ⊥
+pub stopped_no_end : (options : RunOptions) (drawn : choices.Origin) (force : Bool) (file out : List ℕ) (w : World)
+    (shelf : Type 0) (end : Option End) (trap : Option LostTrap) (n : ℕ) (stop : Stop)
+    → stop_status stop ≡ imprecise_status end trap n → StopsBy (Planned drawn force file w.files) shelf stop → ⊥
 stopped_no_end options drawn force file out w shelf end trap n stop e (inl h) =
-    no_end end trap n (stop_status stop) e (refusal ((lawful options drawn force file out w).stages.plain (stop_status stop) (stop_line stop) (inl h)))
+    journal_status-no_end end trap n (stop_status stop) e
+    (refusal
+    ((record_form-lawful options drawn force file out w).stages.plain (stop_status stop) (stop_line stop) (inl h)))
   where
-    refusal : IsRefusal (there options drawn force file out w) (stop_status stop) → (class_of (stop_status stop) ≡ refused) ⊎ (is_fault (stop_status stop) ≡ true)
+    refusal : IsRefusal (there options drawn force file out w) (stop_status stop)
+        → (class_of (stop_status stop) ≡ refused) ⊎ (is_fault (stop_status stop) ≡ true)
     refusal (inl r) = inl r
     refusal (inr r) = inr (ap is_fault r.0)
-stopped_no_end options drawn force file out w shelf end trap n stop e (inr (inl h)) = no_end end trap n (stop_status stop) e (inr (ap (λ s. is_fault (stop_status s)) h))
-stopped_no_end options drawn force file out w shelf end trap n stop e (inr (inr h)) = no_end end trap n (stop_status stop) e (inr (ap (λ s. is_fault (stop_status s)) h.0))
+stopped_no_end options drawn force file out w shelf end trap n stop e (inr (inl h)) =
+    journal_status-no_end end trap n (stop_status stop) e (inr (ap (λ s. is_fault (stop_status s)) h))
+stopped_no_end options drawn force file out w shelf end trap n stop e (inr (inr h)) =
+    journal_status-no_end end trap n (stop_status stop) e (inr (ap (λ s. is_fault (stop_status s)) h.0))
 
 -- ---- input and files
 
@@ -83,14 +97,25 @@ over_takes force out s (inr (inl h)) = (refl, inr (inl h))
 over_takes force out s (inr (inr (inl h))) = (refl, inr (inr (inl h)))
 over_takes force out s (inr (inr (inr h))) = (refl, inr (inr (inr (refl, inr h))))
 
-module _ (options : RunOptions) (force : Bool) (out : List ℕ) (input : Option (List ℕ)) (plan : Plan) (p : Parts) (d r : Decision) (left : Option (List ℕ)) (o n : Sunk)
-    (run : RunsOn options force input plan p d left o n) (refuses shelf : Type 0) (s : Shelved) where
-  end_is : d.status ≡ wild_status run.shown.end run.shown.lost (run.shown.drawn % 2 ^ 64)
+module _ (options : RunOptions) (force : Bool) (out : List ℕ) (input : Option (List ℕ)) (plan : Plan) (p : Parts)
+    (d r : Decision) (left : Option (List ℕ)) (o n : SinkChange)
+    (run : RunsOn options force input plan p d left o n) (refuses shelf : Type 0) (s : ShelfChange) where
+  end_is : d.status ≡ imprecise_status run.shown.end run.shown.lost (run.shown.drawn % 2 ^ 64)
   end_is = ap (λ (a : Answer). a.status) run.says
 
   run_ends : r ≡ d → IsEndStatus force r.status
   run_ends e =
-      inl (run.shown.end, (run.shown.lost, (run.shown.drawn % 2 ^ 64, may_lose (unwatched options) force input plan run.shown run.may, ap (λ (x : Decision). x.status) e ∙ end_is)))
+      inl (
+        run.shown.end,
+        (
+          run.shown.lost,
+          (
+            run.shown.drawn % 2 ^ 64,
+            MayShowImprecise-MayLose (unwatched options) force input plan run.shown run.may,
+            ap (λ (x : Decision). x.status) e ∙ end_is,
+          ),
+        ),
+      )
 
   alone : (status : Status) → SaysAlone status r → r.status ≡ status
   alone status says = ap (λ (a : Answer). a.status) (says None)
@@ -107,12 +132,18 @@ module _ (options : RunOptions) (force : Bool) (out : List ℕ) (input : Option 
   kept_spares (lost fits c says files) = inr (out, (refl, inr (inl (alone ShelfFault says))), files)
   kept_spares (spent says files) = inl files
 
-  pub kept_keeps : (end : Option End) (trap : Option LostTrap) (k : ℕ) → r.status ≡ wild_status end trap k → KeptBehind refuses shelf out (spelling p) s d r → HasFile s.new out (spelling p)
+  pub kept_keeps : (end : Option End) (trap : Option LostTrap) (k : ℕ) → r.status ≡ imprecise_status end trap k
+      → KeptBehind refuses shelf out (spelling p) s d r → HasFile s.new out (spelling p)
   kept_keeps end trap k is (stands fits e files) = files.0
-  kept_keeps end trap k is (untaken u says files) = absurd (no_end end trap k r.status is (inr (ap is_fault (alone ShelfFault says))))
-  kept_keeps end trap k is (lost fits c says files) = absurd (no_end end trap k r.status is (inr (ap is_fault (alone ShelfFault says))))
-  kept_keeps end trap k is (spent says files) = absurd (no_end end trap k r.status is (inr (ap is_fault (alone NoMemory says))))
+  kept_keeps end trap k is (untaken u says files) =
+      absurd (journal_status-no_end end trap k r.status is (inr (ap is_fault (alone ShelfFault says))))
+  kept_keeps end trap k is (lost fits c says files) =
+      absurd (journal_status-no_end end trap k r.status is (inr (ap is_fault (alone ShelfFault says))))
+  kept_keeps end trap k is (spent says files) =
+      absurd (journal_status-no_end end trap k r.status is (inr (ap is_fault (alone NoMemory says))))
 
   -- the decision of a run is no shelf's fault
   pub decision_not_shelf : d.status ≢ ShelfFault
-  decision_not_shelf e = no_end run.shown.end run.shown.lost (run.shown.drawn % 2 ^ 64) d.status end_is (inr (ap is_fault e))
+  decision_not_shelf e =
+      journal_status-no_end run.shown.end run.shown.lost (run.shown.drawn % 2 ^ 64) d.status end_is
+      (inr (ap is_fault e))

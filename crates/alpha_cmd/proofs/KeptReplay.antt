@@ -1,24 +1,25 @@
 -- A journal that was kept is replayed.
-use Rattle.std.proofs.Common.{◌≡◌, ◌≤◌, ◌*◌, ◌∙◌, ◌++◌, ℕ, Bool, List, [], ◌∷◌, length, Option, Some, None, Ok, IsSome, refl, ap, arith}
+use Rattle.std.proofs.Common.{◌≡◌, ◌≤◌, ◌*◌, ◌∙◌, ◌++◌, ℕ, Bool, List, [], ◌∷◌, length, Option, Some, None, Ok, IsSome}
+use Rattle.std.proofs.Common.{refl, ap, arith}
 use Rattle.std.proofs.lemmas.List.{length-append}
 use Rattle.std.specs.List.{flat_map}
 use Rattle.alpha_image.specs.Parts.{Parts as Image}
 use Rattle.alpha_request.specs.declared.options.RunOptions.{RunOptions}
 use Rattle.alpha_request.specs.Origin.{Origin}
-use Rattle.alpha_imprecise.specs.Made.{first_words, most_words}
+use Rattle.alpha_imprecise.specs.ChosenRun.{first_words, most_words}
 use Rattle.alpha_replay.specs.declared.item.Item.{Item}
 use Rattle.alpha_replay.specs.declared.item.Item.TheVariants.{Units}
 use Rattle.alpha_replay.specs.declared.replaying.Replayed.{Replayed}
 use Rattle.alpha_replay.specs.Items.{item_bytes}
-use Rattle.alpha_replay.specs.Journal.{Parts, IsJournal, numbers, front, spelling}
+use Rattle.alpha_replay.specs.Journal.{Parts, IsJournal, numbers, header_bytes, spelling}
 use Rattle.alpha_replay.specs.JournalEnd.{IsRecorded}
-use Rattle.alpha_replay.specs.Gathered.{items_of}
+use Rattle.alpha_replay.specs.GatheredItems.{items_of}
 use Rattle.alpha_replay.specs.Replay.{reports_of, replayed}
-use Rattle.alpha_replay.proofs.FrontBytes.{length-front}
+use Rattle.alpha_replay.proofs.HeaderBytes.{length-journal_header}
 use Rattle.alpha_replay.proofs.ItemBytes.{length-item_bytes}
 use Rattle.alpha_replay.proofs.JournaledReplays.{journaled_lists, journaled_replays}
 use Rattle.alpha_cmd.specs.declared.status.Status.TheVariants.{Done}
-use Rattle.alpha_cmd.specs.Outcome.{goes}
+use Rattle.alpha_cmd.specs.Outcome.{continues}
 use Rattle.alpha_cmd.specs.Answer.{Answer}
 use Rattle.alpha_cmd.specs.AnswerBy.{World, AnswerBy}
 use Rattle.alpha_cmd.specs.Image.{ImageOf}
@@ -27,7 +28,7 @@ use Rattle.alpha_cmd.specs.Commands.Record.{HasJournal, KeepsRun}
 use Rattle.alpha_cmd.specs.Commands.Replay as replays
 use Rattle.alpha_cmd.specs.RunAnswer.{program_by}
 use Rattle.alpha_cmd.proofs.Commands.Imprecise.{planned_image}
-use Rattle.alpha_cmd.proofs.Commands.Replay.{lawful}
+use Rattle.alpha_cmd.proofs.Commands.Replay.{replay_form-lawful}
 use Rattle.alpha_cmd.proofs.Forms.{one_answer}
 
 -- ---- a good journal is short enough for a file of a call
@@ -46,10 +47,10 @@ short_enough p good =
     let items = flat_map item_bytes p.items in
     omega (
       arith,
-      length-append (front (numbers p)) (p.input ++ (p.output ++ items)),
+      length-append (header_bytes (numbers p)) (p.input ++ (p.output ++ items)),
       length-append p.input (p.output ++ items),
       length-append p.output items,
-      length-front (numbers p),
+      length-journal_header (numbers p),
       items_most p.items,
       good.few_items,
       good.few_input,
@@ -58,27 +59,38 @@ short_enough p good =
 
 -- ---- the journal of a run
 
-recorded_replays : (options : RunOptions) (image : Image) (input : List ℕ) (ahead : ℕ → ℕ) (p : Parts) → IsRecorded options.steps (program_by options image) input ahead p
+recorded_replays : (options : RunOptions) (image : Image) (input : List ℕ) (ahead : ℕ → ℕ) (p : Parts)
+    → IsRecorded options.steps (program_by options image) input ahead p
     → (r : Replayed) × (replayed image p ≡ Ok r)
 recorded_replays options image input ahead p h =
     let words = first_words (most_words options.steps) ahead in
     let g = program_by options image in
     let r : Replayed = record { units = h.place.run.units; reports = reports_of (items_of h.place.run.steps) } in (
       r,
-      ap (replayed image) h.is ∙ journaled_replays options.steps image options.complete input words h.place h.stops h.within (journaled_lists options.steps g input words h.place h.stops),
+      ap (replayed image) h.is
+          ∙ journaled_replays options.steps image options.complete input words h.place h.stops h.within
+          (journaled_lists options.steps g input words h.place h.stops),
     )
 
-told_journal : (options : RunOptions) (input : Option (List ℕ)) (plan : Plan) (p : Parts) → IsSome input → HasJournal options input plan p → (r : Replayed) × (replayed plan.image p ≡ Ok r)
+told_journal : (options : RunOptions) (input : Option (List ℕ)) (plan : Plan) (p : Parts) → IsSome input
+    → HasJournal options input plan p → (r : Replayed) × (replayed plan.image p ≡ Ok r)
 told_journal options None plan p told has = cc
 told_journal options (Some input) plan p told has = recorded_replays options plan.image input plan.ahead p has
 
-pub kept_replay : (options : RunOptions) (choices : Origin) (force : Bool) (file out : List ℕ) (w v : World) (a : Answer) → IsSome w.input → IsSome v.files
-    → KeepsRun options choices force file out w v.files → ((image : Image) → ImageOf w.files file (goes image) → ImageOf v.files file (goes image))
+pub kept_replay : (options : RunOptions) (choices : Origin)
+    (force : Bool) (file out : List ℕ) (w v : World) (a : Answer)
+    → IsSome w.input → IsSome v.files
+    → KeepsRun options choices force file out w v.files
+    → ((image : Image) → ImageOf w.files file (continues image) → ImageOf v.files file (continues image))
     → AnswerBy (replays.steps file out) v a → a.status ≡ Done 0
 kept_replay options choices force file out w v a told files (plan, planned, (p, good, has, there)) stays is =
     let image = stays plan.image (planned_image force choices file w.files plan planned) in
     let run = told_journal options w.input plan p told has in
     let b : Answer = replays.shown v.input run.0 in
-    let answers : AnswerBy (replays.steps file out) v b =
-    (goes b, (run.0, (plan.image, image, (p, (spelling p, (there, short_enough p good), (good, refl)), run.1)), refl), refl) in
-    ap (λ (x : Answer). x.status) (one_answer (replays.form file out) (replays.there file out) v (lawful file out v) a b files is answers)
+    let answers : AnswerBy (replays.steps file out) v b = (
+      continues b,
+      (run.0, (plan.image, image, (p, (spelling p, (there, short_enough p good), (good, refl)), run.1)), refl),
+      refl,
+    ) in
+    ap (λ (x : Answer). x.status)
+    (one_answer (replays.form file out) (replays.there file out) v (replay_form-lawful file out v) a b files is answers)

@@ -1,6 +1,6 @@
 -- The laws of what is asked of an image.
 use Rattle.std.proofs.Common.{◌≡◌, ℕ, List, refl}
-use Rattle.alpha_io.specs.Shelved.{Shelved}
+use Rattle.alpha_io.specs.ShelfChange.{ShelfChange}
 use Rattle.alpha_shadow.specs.Broken.{IsAccepted}
 use Rattle.alpha_request.specs.declared.request.ImageCommand.{ImageCommand}
 use Rattle.alpha_request.specs.declared.request.ImageCommand.TheVariants as asked
@@ -17,13 +17,15 @@ pub mod Check
 pub mod Debug
 pub mod Dis
 
-pub lawful : (what : ImageCommand) (file : List ℕ) (w : World) → IsLawfulForm (form what file) (there file) w
-lawful asked.Check = checks.lawful
-lawful asked.Dis = listings.lawful
-lawful asked.Debug = sessions.lawful
+pub of_image_form-lawful : (command : ImageCommand) (file : List ℕ) (w : World)
+    → IsLawfulForm (form command file) (there file) w
+of_image_form-lawful asked.Check = checks.check_form-lawful
+of_image_form-lawful asked.Dis = listings.dis_form-lawful
+of_image_form-lawful asked.Debug = sessions.debug_form-lawful
 
 -- what the shelf replied to a check, and to no other
-pub of_image_replied : (what : ImageCommand) (file : List ℕ) (s : Shelved) → (what ≡ asked.Check → ReadsImage s file (λ image. IsAccepted image.words)) → Replied (of_image what file) s
+pub of_image_replied : (command : ImageCommand) (file : List ℕ) (s : ShelfChange)
+    → (command ≡ asked.Check → ReadsImage s file (λ image. IsAccepted image.words)) → Replied (of_image command file) s
 of_image_replied asked.Check file s h = h refl
 of_image_replied asked.Dis file s h = tt
 of_image_replied asked.Debug file s h = tt

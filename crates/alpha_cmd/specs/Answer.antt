@@ -1,7 +1,7 @@
 -- What a command has as its answer, where no device fails and memory lasts.
 use Rattle.std.specs.Prelude.{◌≡◌, ℕ, List, ◌++◌, Option, Some, IfSome}
-use Rattle.alpha_io.specs.Shelved.{Shelved}
-use Rattle.alpha_io.specs.Sunk.{Sunk, Puts}
+use Rattle.alpha_io.specs.ShelfChange.{ShelfChange}
+use Rattle.alpha_io.specs.SinkChange.{SinkChange, Puts}
 use Rattle.alpha_cmd.specs.declared.status.Status.{Status}
 use Rattle.alpha_cmd.specs.Kept.{Kept, HasKept}
 
@@ -23,7 +23,8 @@ abbrev pub IsLeft : Answer → Option (List ℕ) → Type 0
 IsLeft a left = IfSome a.left (λ rest. left ≡ Some rest)
 
 -- an answer was given: its status, all of its bytes, the input left, and the files
-pub record IsAnswered (a : Answer) (status : Status) (left : Option (List ℕ)) (shelf : Shelved) (out notes : Sunk) : Type 0 where
+pub record IsAnswered (a : Answer) (status : Status) (left : Option (List ℕ)) (shelf : ShelfChange)
+    (out notes : SinkChange) : Type 0 where
   pub status_is : status ≡ a.status
   pub left_is : IsLeft a left
   pub files : HasKept a.kept shelf

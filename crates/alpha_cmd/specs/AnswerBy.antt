@@ -6,7 +6,7 @@ use Rattle.alpha_io.specs.Files.{Files}
 use Rattle.alpha_image.specs.Parts.{IsByte}
 use Rattle.alpha_cmd.specs.declared.status.Status.{Status}
 use Rattle.alpha_cmd.specs.declared.status.Status.TheVariants.{Done}
-use Rattle.alpha_cmd.specs.Outcome.{Outcome, goes, stops}
+use Rattle.alpha_cmd.specs.Outcome.{Outcome, continues, stops}
 use Rattle.alpha_cmd.specs.Kept.{nothing}
 use Rattle.alpha_cmd.specs.Kept as kinds
 use Rattle.alpha_cmd.specs.Answer.{Answer}
@@ -32,20 +32,22 @@ abbrev pub told : Call → World
 told c = record { files = c.shelf.old; takes = c.shelf.took; input = c.input.old.left }
 
 -- a status that is said by its line alone, with the input as it is
-abbrev pub said : Option (List ℕ) → Status → List ℕ → Answer
-said input status line = record { status = status; output = []; trace = []; line = line; left = input; kept = nothing }
+abbrev pub status_answer : Option (List ℕ) → Status → List ℕ → Answer
+status_answer input status line =
+    record { status = status; output = []; trace = []; line = line; left = input; kept = nothing }
 
 -- what was asked is done, with these bytes for the output and the input as it is
 abbrev pub done_with : Option (List ℕ) → List ℕ → Answer
-done_with input output = record { status = Done 0; output = output; trace = []; line = []; left = input; kept = nothing }
+done_with input output =
+    record { status = Done 0; output = output; trace = []; line = []; left = input; kept = nothing }
 
 -- the file of this name is these bytes
 abbrev pub kept_as : Option (List ℕ) → List ℕ → List ℕ → Answer
 kept_as input name bytes = record (done_with input []) { kept = kinds.file name bytes }
 
 abbrev pub answer_of : Option (List ℕ) → Outcome Answer → Answer
-answer_of input (goes a) = a
-answer_of input (stops status line) = said input status line
+answer_of input (continues a) = a
+answer_of input (stops status line) = status_answer input status line
 
 -- an answer of a command with these stages
 abbrev pub AnswerBy : (World → Outcome Answer → Type 0) → World → Answer → Type 0

@@ -4,8 +4,8 @@ use Rattle.alpha_request.specs.Command.{Command}
 use Rattle.alpha_request.specs.Asked.{asked}
 
 -- words that ask for a command
-abbrev pub Asks : List (List ℕ) → Command → Type 0
-Asks words command = asked words ≡ Some command
+abbrev pub AsksFor : List (List ℕ) → Command → Type 0
+AsksFor words command = asked words ≡ Some command
 
 -- words that ask for nothing
 abbrev pub AsksNothing : List (List ℕ) → Type 0

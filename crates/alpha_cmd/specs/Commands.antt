@@ -11,7 +11,7 @@ use Rattle.alpha_cmd.specs.Commands.Record as recordings
 use Rattle.alpha_cmd.specs.Commands.Replay as replays
 use Rattle.alpha_cmd.specs.Commands.Run as runs
 use Rattle.alpha_cmd.specs.Commands.Trial as trials
-use Rattle.alpha_cmd.specs.Makings as makings
+use Rattle.alpha_cmd.specs.SourceCommands as makings
 use Rattle.alpha_cmd.specs.OfImage as images
 pub mod Imprecise
 pub mod Link

@@ -1,8 +1,8 @@
 -- How a call ends: what was tried, and what of it was written.
 use Rattle.std.specs.Prelude.{◌≡◌, ◌⊎◌, ◌++◌, ℕ, List, Option, Result, Ok, Err}
 use Rattle.alpha_io.specs.declared.Failed.{Failed}
-use Rattle.alpha_io.specs.Shelved.{Shelved}
-use Rattle.alpha_io.specs.Sunk.{Sunk, Puts, Partly, HasFailed}
+use Rattle.alpha_io.specs.ShelfChange.{ShelfChange}
+use Rattle.alpha_io.specs.SinkChange.{SinkChange, Puts, WritesPartly, HasFailed}
 use Rattle.alpha_cmd.specs.declared.decision.Decision.{Decision}
 use Rattle.alpha_cmd.specs.declared.status.Status.{Status}
 use Rattle.alpha_cmd.specs.declared.status.Status.TheVariants.{SinkFault}
@@ -10,9 +10,10 @@ use Rattle.alpha_cmd.specs.Answer.{Answer, notes_of, IsLeft}
 use Rattle.alpha_cmd.specs.Decision.{answer_in}
 use Rattle.alpha_cmd.specs.Kept.{Kept, HasKept}
 
--- What was tried was written, all of it, its status is the call's, its input left is what the source tells, and the file that
--- it keeps is kept.
-pub record Ends (P : Answer → Type 0) (status : Status) (left : Option (List ℕ)) (shelf : Shelved) (out notes : Sunk) : Type 0 where
+-- What was tried was written, all of it, its status is the call's, its input left is what the source tells, and the
+-- file that it keeps is kept.
+pub record EndsCall (P : Answer → Type 0) (status : Status) (left : Option (List ℕ)) (shelf : ShelfChange)
+    (out notes : SinkChange) : Type 0 where
   pub tried : Answer
   pub is : P tried
   pub status_is : status ≡ tried.status
@@ -22,18 +23,18 @@ pub record Ends (P : Answer → Type 0) (status : Status) (left : Option (List �
   pub line : Puts notes (notes_of tried)
 
 -- a sink failed, and a prefix of what was tried was written
-pub record EndsPart (P : Answer → Type 0) (shelf : Shelved) (out notes : Sunk) : Type 0 where
+pub record EndsPart (P : Answer → Type 0) (shelf : ShelfChange) (out notes : SinkChange) : Type 0 where
   pub tried : Answer
   pub is : P tried
   pub files : HasKept tried.kept shelf
-  pub output : Partly out tried.output
-  pub line : Partly notes (notes_of tried)
+  pub output : WritesPartly out tried.output
+  pub line : WritesPartly notes (notes_of tried)
   pub failed : HasFailed out ⊎ HasFailed notes
 
 -- ---- a command that writes while it works
 
 -- the front of what was tried was written, and this is the rest of it
-pub record Leaves (P : Answer → Type 0) (rest : Answer) (shelf : Shelved) (out notes : Sunk) : Type 0 where
+pub record Leaves (P : Answer → Type 0) (rest : Answer) (shelf : ShelfChange) (out notes : SinkChange) : Type 0 where
   pub tried : Answer
   pub is : P tried
   pub status_is : rest.status ≡ tried.status
@@ -47,13 +48,14 @@ pub record Leaves (P : Answer → Type 0) (rest : Answer) (shelf : Shelved) (out
   pub notes_are : trace ++ notes_of rest ≡ notes_of tried
 
 -- it decides, with the rest still to be written, or a sink failed
-abbrev pub Decides : (Answer → Type 0) → Result Decision Failed → Option (List ℕ) → Shelved → Sunk → Sunk → Type 0
-Decides P (Ok decision) left shelf out notes = Leaves P (answer_in left decision) shelf out notes
-Decides P (Err failed) left shelf out notes = EndsPart P shelf out notes
+abbrev pub OutcomeOrFault : (Answer → Type 0) → Result Decision Failed → Option (List ℕ) → ShelfChange → SinkChange
+    → SinkChange → Type 0
+OutcomeOrFault P (Ok decision) left shelf out notes = Leaves P (answer_in left decision) shelf out notes
+OutcomeOrFault P (Err failed) left shelf out notes = EndsPart P shelf out notes
 
 -- one that wrote nothing so far, with what it kept
-abbrev pub Settles : (Answer → Type 0) → Answer → Shelved → Type 0
-Settles P rest shelf = (kept : Kept) × P (record rest { kept = kept }) × HasKept kept shelf
+abbrev pub FinalOutcome : (Answer → Type 0) → Answer → ShelfChange → Type 0
+FinalOutcome P rest shelf = (kept : Kept) × P (record rest { kept = kept }) × HasKept kept shelf
 
 -- the status that it answers
 abbrev pub status_in : Result Decision Failed → Status
@@ -61,5 +63,5 @@ status_in (Ok decision) = decision.status
 status_in (Err failed) = SinkFault
 
 -- a sink that is not called, by what it tells and its count
-abbrev pub still : Option (List ℕ) → ℕ → Sunk
+abbrev pub still : Option (List ℕ) → ℕ → SinkChange
 still told count = record { old = told; new = told; before = count; now = count }

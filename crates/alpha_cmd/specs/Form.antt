@@ -1,10 +1,11 @@
 -- What is the same of all commands: the form of one is its stages, what it needs to be told, and its kind.
-use Rattle.std.specs.Prelude.{◌≡◌, ◌⊎◌, ℕ, List, length, if◌then◌else◌, Bool, true, false, Option, Some, None, IsTrue, IsSome}
+use Rattle.std.specs.Prelude.{◌≡◌, ◌⊎◌, ℕ, List, length, if◌then◌else◌, Bool, true, false, Option, Some, None, IsTrue}
+use Rattle.std.specs.Prelude.{IsSome}
 use Rattle.std.specs.List.{AllByRecursion}
 use Rattle.alpha_io.specs.Files.{Files, IfTold, KeepsFiles, KeepsOtherFiles}
 use Rattle.alpha_cmd.specs.declared.status.Status.{Status}
 use Rattle.alpha_cmd.specs.declared.status.Status.TheVariants.{Done, ShelfFault, InputFault, SinkFault, NoMemory}
-use Rattle.alpha_cmd.specs.Outcome.{Outcome, goes, Then}
+use Rattle.alpha_cmd.specs.Outcome.{Outcome, continues, Then}
 use Rattle.alpha_cmd.specs.Answer.{Answer}
 use Rattle.alpha_cmd.specs.AnswerBy.{World}
 use Rattle.alpha_cmd.specs.Keeping.{KeepsAs}
@@ -27,8 +28,8 @@ IsThere name w = IfTold w.files name (λ bytes. Unit {0})
 
 -- ---- kinds
 
--- The statuses with which a command ends that has begun its last stage, whether that stage takes input, and the name of the
--- file that it keeps.
+-- The statuses with which a command ends that has begun its last stage, whether that stage takes input, and the name of
+-- the file that it keeps.
 pub record Kind : Type 1 where
   pub ends : Status → Type 0
   pub takes : Bool
@@ -54,13 +55,14 @@ records IsEndStatus out = record { ends = IsEndStatus; takes = true; keeps = Som
 abbrev pub needs_by : Kind → Needs
 needs_by k = if k.takes then needs_files_and_input else needs_files
 
--- The statuses under which input may have been taken: those of the end, of a stream that failed on the way, and of a file that
--- was to be kept behind it.
+-- The statuses under which input may have been taken: those of the end, of a stream that failed on the way, and of a
+-- file that was to be kept behind it.
 abbrev pub MayTakeBy : Kind → Status → Type 0
 MayTakeBy k status =
     IsTrue k.takes
     × (k.ends status
-    ⊎ ((status ≡ InputFault) ⊎ ((status ≡ SinkFault) ⊎ (IsSome k.keeps × ((status ≡ ShelfFault) ⊎ (status ≡ NoMemory))))))
+    ⊎ ((status ≡ InputFault)
+    ⊎ ((status ≡ SinkFault) ⊎ (IsSome k.keeps × ((status ≡ ShelfFault) ⊎ (status ≡ NoMemory))))))
 
 -- the statuses under which a file may have been changed, and its name
 abbrev pub MayKeepBy : Kind → Status → List ℕ → Type 0
@@ -68,7 +70,8 @@ MayKeepBy k status name = (k.keeps ≡ Some name) × (k.ends status ⊎ ((status
 
 -- told files stay, but for that one
 abbrev pub SparesBy : Kind → Status → Files → Files → Type 0
-SparesBy k status old new = KeepsFiles old new ⊎ ((name : List ℕ) × MayKeepBy k status name × KeepsOtherFiles old new name)
+SparesBy k status old new =
+    KeepsFiles old new ⊎ ((name : List ℕ) × MayKeepBy k status name × KeepsOtherFiles old new name)
 
 -- ---- forms
 
@@ -78,11 +81,12 @@ pub record Form : Type 1 where
   pub kind : Kind
 
 -- a command that makes bytes of files, and keeps them as its last stage
-abbrev pub making : (World → Outcome (List ℕ) → Type 0) → List ℕ → Form
-making Makes out = record { steps = λ w. Then (Makes w) (KeepsAs w out); needs = needs_files; kind = keeps_last out }
+abbrev pub making_form : (World → Outcome (List ℕ) → Type 0) → List ℕ → Form
+making_form Makes out =
+    record { steps = λ w. Then (Makes w) (KeepsAs w out); needs = needs_files; kind = keeps_last out }
 
 -- the files of these names are there, and what is made is taken
 abbrev pub making_there : List (List ℕ) → (World → Outcome (List ℕ) → Type 0) → List ℕ → World → Type 0
 making_there names Makes out w =
     AllByRecursion (λ name. IsThere name w) names
-    × ((bytes : List ℕ) → Makes w (goes bytes) → w.takes out (length bytes) ≡ true)
+    × ((bytes : List ℕ) → Makes w (continues bytes) → w.takes out (length bytes) ≡ true)

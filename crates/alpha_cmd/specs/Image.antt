@@ -2,7 +2,7 @@
 use Rattle.std.specs.Prelude.{◌≡◌, ◌⊎◌, ◌<◌, ◌≤◌, ℕ, List, length, Option, Some}
 use Rattle.alpha_io.specs.Files.{Files, IfTold, HasFile, Lacks}
 use Rattle.alpha_image.specs.declared.fault.ImageFault.{ImageFault}
-use Rattle.alpha_image.specs.Parts.{Parts, IsImage, spelling}
+use Rattle.alpha_image.specs.Parts.{Parts, IsImage, image_spelling}
 use Rattle.alpha_image.specs.ImageFault.{first_fault}
 use Rattle.alpha_shadow.specs.declared.broken.Broken.{Broken}
 use Rattle.alpha_shadow.specs.Broken.{IsAccepted}
@@ -23,7 +23,8 @@ Unread files name limit status =
 
 -- the bytes of a named file, where files are told
 abbrev pub Reads : Files → List ℕ → ℕ → Outcome (List ℕ) → Type 0
-Reads files name limit = Either (λ bytes. HasFile files name bytes × (length bytes ≤ limit)) (Says (Unread files name limit))
+Reads files name limit =
+    Either (λ bytes. HasFile files name bytes × (length bytes ≤ limit)) (Says (Unread files name limit))
 
 -- why bytes are no image: their first fault
 abbrev pub NoImage : List ℕ → Status → Type 0
@@ -31,7 +32,7 @@ NoImage bytes status = (fault : ImageFault) × (status ≡ BadImage fault) × (f
 
 -- the image that bytes spell
 abbrev pub Spells : List ℕ → Outcome Parts → Type 0
-Spells bytes = Either (λ image. IsImage image × (bytes ≡ spelling image)) (Says (NoImage bytes))
+Spells bytes = Either (λ image. IsImage image × (bytes ≡ image_spelling image)) (Says (NoImage bytes))
 
 -- the most bytes of an image file
 abbrev pub image_limit : ℕ

@@ -12,16 +12,16 @@ pub mod ChoicesLimit
 pub mod Choosing
 pub mod Commands
 pub mod Decision
-pub mod Does
+pub mod CommandEffect
 pub mod Drawn
 pub mod Ends
 pub mod Fixed
 pub mod Form
-pub mod Gave
+pub mod Answered
 pub mod Image
 pub mod Keeping
 pub mod Kept
-pub mod Makings
+pub mod SourceCommands
 pub mod OfImage
 pub mod Outcome
 pub mod Promises
@@ -39,4 +39,4 @@ pub mod Status
 pub mod Sure
 pub mod ToldRun
 pub mod Tried
-pub mod Tries
+pub mod Attempts

@@ -28,10 +28,12 @@ kind _ = reads
 
 -- of an image that was read, and of the one of a named file
 abbrev pub on : ImageCommand → Parts → Form
-on what image = record { steps = λ w. Answers what w.input image; needs = needs_by (kind what); kind = kind what }
+on command image =
+    record { steps = λ w. Answers command w.input image; needs = needs_by (kind command); kind = kind command }
 
 abbrev pub form : ImageCommand → List ℕ → Form
-form what file = record { steps = OfFile (Answers what) file; needs = needs_by (kind what); kind = kind what }
+form command file =
+    record { steps = OfFile (Answers command) file; needs = needs_by (kind command); kind = kind command }
 
 abbrev pub there : List ℕ → World → Type 0
 there file = IsThere file

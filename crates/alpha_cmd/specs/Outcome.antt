@@ -3,19 +3,19 @@ use Rattle.std.specs.Prelude.{◌≡◌, ◌⊎◌, ℕ, List, [], ◌∷◌, �
 use Rattle.alpha_cmd.specs.declared.status.Status.{Status}
 
 pub data Outcome (X : Type 0) : Type 0 where
-  goes : X → Outcome X
+  continues : X → Outcome X
   stops : Status → List ℕ → Outcome X
 
 -- a stage by what it goes on with, and by why it stops
 abbrev pub Either : {X : Type 0} → (X → Type 0) → (Status → List ℕ → Type 0) → Outcome X → Type 0
-Either Good Why (goes x) = Good x
+Either Good Why (continues x) = Good x
 Either Good Why (stops status line) = Why status line
 
--- One stage and then another, on what the first goes on with. Where the first stops, both do: so the order of stages is the
--- order of refusals.
+-- One stage and then another, on what the first goes on with. Where the first stops, both do: so the order of stages is
+-- the order of refusals.
 abbrev pub Then : {X Y : Type 0} → (Outcome X → Type 0) → (X → Outcome Y → Type 0) → Outcome Y → Type 0
-Then {X = X} R S (goes y) = (x : X) × R (goes x) × S x (goes y)
-Then {X = X} R S (stops status line) = R (stops status line) ⊎ ((x : X) × R (goes x) × S x (stops status line))
+Then {X = X} R S (continues y) = (x : X) × R (continues x) × S x (continues y)
+Then {X = X} R S (stops status line) = R (stops status line) ⊎ ((x : X) × R (continues x) × S x (stops status line))
 
 -- a stage that never stops
 abbrev pub Never : Status → List ℕ → Type 0

@@ -9,16 +9,16 @@ use Rattle.alpha_seq.specs.Run.{after, sequential, ReadNothing}
 use Rattle.alpha_cmd.specs.declared.status.Status.{Status}
 use Rattle.alpha_cmd.specs.AlikeByAnswers.{HasWords, IsChecked}
 use Rattle.alpha_cmd.specs.Answer.{Answer}
-use Rattle.alpha_cmd.specs.Call.{Call, Quiet}
+use Rattle.alpha_cmd.specs.Call.{Call, NoDeviceFault}
 use Rattle.alpha_cmd.specs.Drawn.{but_drawn}
-use Rattle.alpha_cmd.specs.Gave.{Gave}
+use Rattle.alpha_cmd.specs.Answered.{Answered}
 use Rattle.alpha_cmd.specs.AnswerBy.{told}
 use Rattle.alpha_cmd.specs.Image.{ImageOf}
-use Rattle.alpha_cmd.specs.Outcome.{goes}
+use Rattle.alpha_cmd.specs.Outcome.{continues}
 use Rattle.alpha_cmd.specs.RunAnswer.{program_by, answer_shown}
 
--- None of the steps that are asked for reads: none is a system call that asks for a good read. The run over no input tells that
--- of every run, since up to the first such call they are the same.
+-- None of the steps that are asked for reads: none is a system call that asks for a good read. The run over no input
+-- tells that of every run, since up to the first such call they are the same.
 abbrev pub ReadsNothing : RunOptions → Parts → Type 0
 ReadsNothing options image =
     ReadNothing (after (program_by options image) (start (program_by options image)) [] options.steps).events
@@ -28,17 +28,18 @@ abbrev pub answer_unread : RunOptions → Parts → Option (List ℕ) → Answer
 answer_unread options image input =
     record (answer_shown None (sequential (program_by options image) [] options.steps options.watch)) { left = input }
 
--- A run of a told file whose program reads nothing gives that answer, if no device fails, whatever the source tells or doesn't
--- tell.
+-- A run of a told file whose program reads nothing gives that answer, if no device fails, whatever the source tells or
+-- doesn't tell.
 abbrev pub Unread : List (List ℕ) → Status → Call → Type 0
-Unread words status c = (options : RunOptions) (file : List ℕ) (image : Parts) → run_words.Asks words options file
-    → IsSome c.shelf.old → ImageOf c.shelf.old file (goes image) → ReadsNothing options image
-    → Quiet c → Gave (answer_unread options image c.input.old.left) status c
+Unread words status c = (options : RunOptions) (file : List ℕ) (image : Parts) → run_words.AsksToRun words options file
+    → IsSome c.shelf.old → ImageOf c.shelf.old file (continues image) → ReadsNothing options image
+    → NoDeviceFault c → Answered (answer_unread options image c.input.old.left) status c
 
--- So does a run of the imprecise machine of such a file that a check accepts, but for the number of words that it draws.
+-- So does a run of the imprecise machine of such a file that a check accepts, but for the number of words that it
+-- draws.
 abbrev pub UnreadAlike : List (List ℕ) → Status → Call → Type 0
 UnreadAlike words status c = (options : RunOptions) (choices : Origin) (force : Bool) (file : List ℕ) (image : Parts)
     → run_words.AsksImprecise words options choices force file
-    → IsSome c.shelf.old → ImageOf c.shelf.old file (goes image) → ReadsNothing options image
+    → IsSome c.shelf.old → ImageOf c.shelf.old file (continues image) → ReadsNothing options image
     → HasWords c.shelf.old choices → IsChecked file (told c)
-    → Quiet c → Gave (answer_unread options image c.input.old.left) (but_drawn status) c
+    → NoDeviceFault c → Answered (answer_unread options image c.input.old.left) (but_drawn status) c

@@ -6,18 +6,18 @@ use Rattle.alpha_request.specs.declared.options.RunOptions.{RunOptions}
 use Rattle.alpha_seq.specs.declared.end.End.{End}
 use Rattle.alpha_seq.specs.Run.{notes}
 use Rattle.alpha_imprecise.specs.Run.{seen}
-use Rattle.alpha_imprecise.specs.Made.{LostTrap}
+use Rattle.alpha_imprecise.specs.ChosenRun.{LostTrap}
 use Rattle.alpha_replay.specs.declared.ending.Ending.{Ending}
 use Rattle.alpha_replay.specs.declared.ending.Ending.TheVariants as endings
 use Rattle.alpha_replay.specs.Journal.{Parts, spelling}
 use Rattle.alpha_replay.specs.Listed.{Played, listed}
 use Rattle.alpha_replay.specs.Replay.{ending_by, program_by, replayed}
 use Rattle.alpha_cmd.specs.Answer.{Answer}
-use Rattle.alpha_cmd.specs.Commands.Imprecise.{wild_status, wild_line}
+use Rattle.alpha_cmd.specs.Commands.Imprecise.{imprecise_status, imprecise_line}
 use Rattle.alpha_cmd.specs.Image.{ImageOf}
 use Rattle.alpha_cmd.specs.Kept.{nothing}
 use Rattle.alpha_cmd.specs.Kept as kinds
-use Rattle.alpha_cmd.specs.Outcome.{goes}
+use Rattle.alpha_cmd.specs.Outcome.{continues}
 
 -- the ending of a journal, by how the program ended, if it has, and by the trap that was lost, if one was
 abbrev pub ending_shown : Option End → Option LostTrap → Ending
@@ -25,9 +25,9 @@ ending_shown (Some end) lost = ending_by end
 ending_shown None (Some t) = endings.Lost t.pc t.mask
 ending_shown None None = endings.Spent
 
--- The status and the line of an answer are those of the journal's ending, its output is the journal's, what it leaves of the
--- input stands behind the journal's input, and its notes are those of the run that the journal's items list over that input.
--- The replay of the journal shows that run.
+-- The status and the line of an answer are those of the journal's ending, its output is the journal's, what it leaves
+-- of the input stands behind the journal's input, and its notes are those of the run that the journal's items list over
+-- that input. The replay of the journal shows that run.
 pub record IsJournalOf (options : RunOptions) (image : Image) (input : List ℕ) (p : Parts) (a : Answer) : Type 0 where
   pub end : Option End
   pub lost : Option LostTrap
@@ -36,8 +36,8 @@ pub record IsJournalOf (options : RunOptions) (image : Image) (input : List ℕ)
   pub played : Played
   pub reports : ℕ
   pub ending : p.ending ≡ ending_shown end lost
-  pub status : a.status ≡ wild_status end lost drawn
-  pub line : a.line ≡ wild_line end lost
+  pub status : a.status ≡ imprecise_status end lost drawn
+  pub line : a.line ≡ imprecise_line end lost
   pub output : a.output ≡ p.output
   pub taken : input ≡ p.input ++ left
   pub rest : a.left ≡ Some left
@@ -50,5 +50,5 @@ pub record IsJournalOf (options : RunOptions) (image : Image) (input : List ℕ)
 abbrev pub KeepsItsJournal : RunOptions → List ℕ → List ℕ → List ℕ → Files → Answer → Type 0
 KeepsItsJournal options file out input files a =
     (a.kept ≡ nothing)
-    ⊎ ((image : Image) × (p : Parts) × ImageOf files file (goes image) × (a.kept ≡ kinds.file out (spelling p))
+    ⊎ ((image : Image) × (p : Parts) × ImageOf files file (continues image) × (a.kept ≡ kinds.file out (spelling p))
     × IsJournalOf options image input p a)

@@ -1,6 +1,6 @@
 -- What a call of `check FILE` shows, by whatever words.
 use Rattle.std.specs.Prelude.{◌≡◌, ℕ, List}
-use Rattle.alpha_io.specs.Shelved.{Shelved}
+use Rattle.alpha_io.specs.ShelfChange.{ShelfChange}
 use Rattle.alpha_imprecise.specs.Restart.{IsRestartable}
 use Rattle.alpha_request.specs.declared.request.ImageCommand.TheVariants.{Check}
 use Rattle.alpha_request.specs.Commands.OfImage as image_words
@@ -9,5 +9,6 @@ use Rattle.alpha_cmd.specs.declared.status.Status.TheVariants.{Done}
 use Rattle.alpha_cmd.specs.Checked.{ReadsImage}
 
 -- where it is done, the bytes that were read of its file spell an image that can be restarted
-abbrev pub Restarts : List (List ℕ) → Status → Shelved → Type 0
-Restarts words status s = (file : List ℕ) → image_words.Asks Check words file → status ≡ Done 0 → ReadsImage s file IsRestartable
+abbrev pub Restarts : List (List ℕ) → Status → ShelfChange → Type 0
+Restarts words status s =
+    (file : List ℕ) → image_words.AsksOfImage Check words file → status ≡ Done 0 → ReadsImage s file IsRestartable

@@ -28,7 +28,7 @@ run_line (Some end) = end_line end
 
 -- an image with the options' way to complete an overflow
 abbrev pub program_by : RunOptions → Parts → Program
-program_by options image = record { image = image; how = options.complete }
+program_by options image = record { image = image; completion = options.complete }
 
 -- what a run shows
 abbrev pub answer_shown : Option (List ℕ) → Shown → Answer
@@ -41,8 +41,8 @@ answer_shown input s = record {
   kept = nothing;
 }
 
--- A run from the start with as many steps as were asked for, or to the program's end, whatever each read was given: a source
--- that tells nothing may answer each of them anew.
+-- A run from the start with as many steps as were asked for, or to the program's end, whatever each read was given: a
+-- source that tells nothing may answer each of them anew.
 pub record RunByReads (options : RunOptions) (image : Parts) : Type 0 where
   pub events : List Event
   pub at : Stepped

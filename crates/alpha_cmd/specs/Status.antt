@@ -3,7 +3,8 @@ use Rattle.std.specs.Prelude.{◌≡◌, ℕ, List, [], ◌∷◌, ◌++◌, cod
 use Rattle.alpha_image.specs.declared.fault.ImageFault.{ImageFault}
 use Rattle.alpha_image.specs.declared.fault.ImageFault.TheVariants as faults
 use Rattle.alpha_operands.specs.declared.operands.LineFaultKind.{LineFaultKind}
-use Rattle.alpha_operands.specs.declared.operands.LineFaultKind.TheVariants.{BadToken, UnknownName, BadOperands, OutOfRange}
+use Rattle.alpha_operands.specs.declared.operands.LineFaultKind.TheVariants.{BadToken, UnknownName, BadOperands}
+use Rattle.alpha_operands.specs.declared.operands.LineFaultKind.TheVariants.{OutOfRange}
 use Rattle.alpha_asm.specs.declared.fault.AsmFault.{AsmFault}
 use Rattle.alpha_asm.specs.declared.fault.AsmFault.TheVariants as refusals
 use Rattle.alpha_link.specs.declared.fault.ModuleFault.{ModuleFault}
@@ -21,12 +22,16 @@ use Rattle.alpha_verdict.specs.Report.{place_address}
 use Rattle.alpha_seq.specs.Notes.{end_line}
 use Rattle.alpha_cmd.specs.SpentLine.{spent_line}
 use Rattle.alpha_cmd.specs.declared.status.Status.{Status}
-use Rattle.alpha_cmd.specs.declared.status.Status.TheVariants.{Done, NotRestartable, BadWords, BadSource, BadImage, Stopped, StepsSpent, Lost, ShelfFault, InputFault, SinkFault, TooLarge, NoMemory, Unfixable, FixedLine, Far, BadModule, BadLink, BadJournal, NotARun, JournalFull}
+use Rattle.alpha_cmd.specs.declared.status.Status.TheVariants.{Done, NotRestartable, BadWords, BadSource, BadImage}
+use Rattle.alpha_cmd.specs.declared.status.Status.TheVariants.{Stopped, StepsSpent, Lost, ShelfFault, InputFault}
+use Rattle.alpha_cmd.specs.declared.status.Status.TheVariants.{SinkFault, TooLarge, NoMemory, Unfixable, FixedLine, Far}
+use Rattle.alpha_cmd.specs.declared.status.Status.TheVariants.{BadModule, BadLink, BadJournal, NotARun, JournalFull}
 
 -- A word and `kind K first F second S`: the kind of the fault and its numbers, 0 where there is none
 unfoldable pub numbered_line : List ℕ → ℕ → ℕ → ℕ → List ℕ
 numbered_line word kind first second =
-    word ++ codes " kind " ++ decimal kind ++ codes " first " ++ decimal first ++ codes " second " ++ decimal second ++ 10 ∷ []
+    word ++ codes " kind " ++ decimal kind ++ codes " first " ++ decimal first ++ codes " second " ++ decimal second
+    ++ 10 ∷ []
 
 abbrev pub fault_line : ImageFault → List ℕ
 fault_line (faults.Short given) = numbered_line (codes "image") 1 given 0
@@ -36,11 +41,12 @@ fault_line (faults.Length given wanted) = numbered_line (codes "image") 4 given 
 fault_line (faults.BadWord place word) = numbered_line (codes "image") 5 place word
 fault_line faults.NoMemory = numbered_line (codes "image") 6 0 0
 
--- A word and `kind K line L column C detail D`: the kind of the refusal and where it stands, 0 where that is nowhere. The detail
--- is the number of a line's fault, or the field.
+-- A word and `kind K line L column C detail D`: the kind of the refusal and where it stands, 0 where that is nowhere.
+-- The detail is the number of a line's fault, or the field.
 unfoldable pub placed_line : List ℕ → ℕ → ℕ → ℕ → ℕ → List ℕ
 placed_line word kind line column detail =
-    word ++ codes " kind " ++ decimal kind ++ codes " line " ++ decimal line ++ codes " column " ++ decimal column ++ codes " detail "
+    word ++ codes " kind " ++ decimal kind ++ codes " line " ++ decimal line ++ codes " column " ++ decimal column
+    ++ codes " detail "
     ++ decimal detail ++ 10 ∷ []
 
 abbrev pub kind_number : LineFaultKind → ℕ
@@ -72,16 +78,19 @@ lost_line pc mask = codes "lost " ++ hex_digits pc ++ codes " mask " ++ decimal 
 -- `unfixable trigger A at B condition Cn`: a trigger that is broken at its own place, in an image with this code base
 unfoldable pub unfixable_line : Broken → ℕ → List ℕ
 unfixable_line b code_base =
-    codes "unfixable trigger " ++ hex_digits (place_address code_base b.trigger) ++ codes " at " ++ hex_digits (place_address code_base b.at)
+    codes "unfixable trigger " ++ hex_digits (place_address code_base b.trigger) ++ codes " at "
+    ++ hex_digits (place_address code_base b.at)
     ++ codes " condition C" ++ decimal (condition_number b.condition) ++ 10 ∷ []
 
 -- `fixed line L`
 unfoldable pub fixing_line : ℕ → List ℕ
 fixing_line line = codes "fixed line " ++ decimal line ++ 10 ∷ []
 
--- `module F kind K first N`: the number of the file, the kind of its fault and the fault's number, 0 where there is none
+-- `module F kind K first N`: the number of the file, the kind of its fault and the fault's number, 0 where there is
+-- none
 unfoldable pub module_line : ℕ → ℕ → ℕ → List ℕ
-module_line file kind first = codes "module " ++ decimal file ++ codes " kind " ++ decimal kind ++ codes " first " ++ decimal first ++ 10 ∷ []
+module_line file kind first =
+    codes "module " ++ decimal file ++ codes " kind " ++ decimal kind ++ codes " first " ++ decimal first ++ 10 ∷ []
 
 abbrev pub module_fault_line : ℕ → ModuleFault → List ℕ
 module_fault_line file modules.Header = module_line file 1 0
@@ -121,8 +130,8 @@ norun_line replays.End = kind_line (codes "norun") 3 0
 norun_line (replays.Input left) = kind_line (codes "norun") 4 left
 norun_line replays.NoMemory = kind_line (codes "norun") 5 0
 
--- A call did what was asked. It was refused, by what the words and the files say. The program that it ran ended otherwise
--- than by the system call exit, was cut off, or lost a trap. Or a device failed, or memory ran out.
+-- A call did what was asked. It was refused, by what the words and the files say. The program that it ran ended
+-- otherwise than by the system call exit, was cut off, or lost a trap. Or a device failed, or memory ran out.
 pub data Class : Type 0 where
   done : Class
   refused : Class

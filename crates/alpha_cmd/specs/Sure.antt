@@ -11,7 +11,8 @@ abbrev pub sure_world : SureShelfState → SureSourceState → World
 sure_world shelf input = record { files = Some (sure_file shelf); takes = sure_takes shelf; input = Some input.left }
 
 -- what a call did to them; no count of faults rises, and sinks that drop what is written tell nothing
-abbrev pub sure_call : {K N : Type 0} → Devices SureShelfState SureSourceState K N → Devices SureShelfState SureSourceState K N → Call
+abbrev pub sure_call : {K N : Type 0} → Devices SureShelfState SureSourceState K N
+    → Devices SureShelfState SureSourceState K N → Call
 sure_call old new = record {
   shelf = record {
     old = Some (sure_file old.shelf);

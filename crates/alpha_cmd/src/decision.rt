@@ -1,8 +1,8 @@
 ghost use Rattle.std.specs.Prelude.{◌≡◌, ◌≢◌, ◌⊎◌, ℕ, List, Option, Some, OnOk, OnErr};
-ghost use Rattle.alpha_io.specs.Sunk.{sunk, Puts, Partly, HasFailed};
+ghost use Rattle.alpha_io.specs.SinkChange.{sink_change, Puts, WritesPartly, HasFailed};
 ghost use Rattle.alpha_seq.specs.Notes.{end_line};
 ghost use Rattle.alpha_cmd.specs.Status.{status_line};
-ghost use Rattle.alpha_cmd.specs.AnswerBy.{said};
+ghost use Rattle.alpha_cmd.specs.AnswerBy.{status_answer};
 ghost use Rattle.alpha_cmd.specs.OfImage.Check.{accepted};
 ghost use Rattle.alpha_cmd.specs.Commands.Replay.{shown};
 ghost use Rattle.alpha_cmd.specs.Commands.Imprecise.{drawn_status, answer_status, answer_line};
@@ -29,9 +29,9 @@ pub(crate) struct Decision {
 
 impl Decision {
     /// A status with its line.
-    pub(crate) fn said(status: Status) -> Decision
+    pub(crate) fn of_status(status: Status) -> Decision
         ensures answer { (left : Option (List ℕ)) → answer_in left result
-            ≡ said left status (status_line status) }
+            ≡ status_answer left status (status_line status) }
         ensures status { result.status ≡ status }
     {
         let line = line_of(&status);
@@ -78,12 +78,12 @@ impl Decision {
 
     /// What is decided behind a run of the program: by the step behind which it is over, and none where all units were
     /// used, and by how many words were drawn.
-    pub(crate) fn behind(last: Option<Event>, drawn: u64) -> Decision
+    pub(crate) fn after_run(last: Option<Event>, drawn: u64) -> Decision
         ensures { (left : Option (List ℕ)) → answer_in left result
-            ≡ said left (answer_status last drawn) (answer_line last) }
+            ≡ status_answer left (answer_status last drawn) (answer_line last) }
     {
         match last {
-            None => Decision::said(Status::StepsSpent),
+            None => Decision::of_status(Status::StepsSpent),
             Some(event) => Decision::behind_step(&event, drawn),
         }
     }
@@ -91,19 +91,19 @@ impl Decision {
     // What is decided behind a run that this step ended.
     fn behind_step(event: &Event, drawn: u64) -> Decision
         ensures { (left : Option (List ℕ)) → answer_in left result
-            ≡ said left (answer_status (Some event.now) drawn) (answer_line (Some event.now)) }
+            ≡ status_answer left (answer_status (Some event.now) drawn) (answer_line (Some event.now)) }
     {
         match *event {
             Event::Ended(end) => Decision::ended(&end, drawn),
-            Event::Lost(trap_pc, mask) => Decision::said(Status::Lost(Lost { trap_pc, mask })),
-            _ => Decision::said(Status::StepsSpent),
+            Event::Lost(trap_pc, mask) => Decision::of_status(Status::Lost(Lost { trap_pc, mask })),
+            _ => Decision::of_status(Status::StepsSpent),
         }
     }
 
     // An end of a program that was run by so many words.
     fn ended(end: &End, drawn: u64) -> Decision
         ensures { (left : Option (List ℕ)) → answer_in left result
-            ≡ said left (drawn_status drawn end.now) (end_line end.now) }
+            ≡ status_answer left (drawn_status drawn end.now) (end_line end.now) }
     {
         Decision {
             status: drawn_status_of(end, drawn),
@@ -117,7 +117,7 @@ impl Decision {
         ensures { IsCutShort fault result }
     {
         match fault {
-            Fault::Input => Ok(Decision::said(Status::InputFault)),
+            Fault::Input => Ok(Decision::of_status(Status::InputFault)),
             Fault::Output | Fault::Notes => Err(Failed),
         }
     }
@@ -127,14 +127,14 @@ impl Decision {
         requires { self.now.status ≢ Status.SinkFault }
         ensures status { (result ≡ Status.SinkFault) ⊎ (result ≡ self.now.status) }
         ensures output { result ≢ Status.SinkFault
-            → Puts (sunk K.Sink out.old out.new) self.now.output }
+            → Puts (sink_change K.Sink out.old out.new) self.now.output }
         ensures notes { result ≢ Status.SinkFault
-            → Puts (sunk N.Sink notes.old notes.new) self.now.line }
-        ensures output_part { Partly (sunk K.Sink out.old out.new) self.now.output }
-        ensures notes_part { Partly (sunk N.Sink notes.old notes.new) self.now.line }
+            → Puts (sink_change N.Sink notes.old notes.new) self.now.line }
+        ensures output_part { WritesPartly (sink_change K.Sink out.old out.new) self.now.output }
+        ensures notes_part { WritesPartly (sink_change N.Sink notes.old notes.new) self.now.line }
         ensures failed { result ≡ Status.SinkFault
-            → HasFailed (sunk K.Sink out.old out.new)
-            ⊎ HasFailed (sunk N.Sink notes.old notes.new) }
+            → HasFailed (sink_change K.Sink out.old out.new)
+            ⊎ HasFailed (sink_change N.Sink notes.old notes.new) }
     {
         match put(out, &self.output) {
             Ok(()) => match put(notes, &self.line) {
@@ -158,9 +158,9 @@ fn drawn_status_of(end: &End, drawn: u64) -> Status
 
 // Writes a line.
 fn put<K: Sink>(sink: &mut K, line: &Line) -> Result<(), Failed>
-    ensures ok { OnOk result (Puts (sunk K.Sink sink.old sink.new) line.now) }
-    ensures part { Partly (sunk K.Sink sink.old sink.new) line.now }
-    ensures failed { OnErr result (HasFailed (sunk K.Sink sink.old sink.new)) }
+    ensures ok { OnOk result (Puts (sink_change K.Sink sink.old sink.new) line.now) }
+    ensures part { WritesPartly (sink_change K.Sink sink.old sink.new) line.now }
+    ensures failed { OnErr result (HasFailed (sink_change K.Sink sink.old sink.new)) }
 {
     write_whole(sink, line.as_bytes())
 }

@@ -1,19 +1,20 @@
 //! The program, but for its real devices.
 
 ghost use Rattle.std.specs.Prelude.{◌≡◌, ◌⊎◌, [], IfOk, OnOk, map, string_bytes};
-ghost use Rattle.alpha_io.specs.Shelved.{shelved};
+ghost use Rattle.alpha_io.specs.ShelfChange.{shelf_change};
 ghost use Rattle.alpha_seq.specs.Devices.{LeavesEnd, drawn};
 ghost use Rattle.alpha_cmd.specs.Alike.{Alike};
 ghost use Rattle.alpha_cmd.specs.AnswerBy.{world};
-ghost use Rattle.alpha_cmd.specs.Asks.{Asks};
+ghost use Rattle.alpha_cmd.specs.Asks.{AsksFor};
 ghost use Rattle.alpha_cmd.specs.Call.{called};
 ghost use Rattle.alpha_cmd.specs.Called.{words_in};
 ghost use Rattle.alpha_cmd.specs.Checked.{Checked};
 ghost use Rattle.alpha_cmd.specs.Commands.Link.{KeepsLinks};
-ghost use Rattle.alpha_cmd.specs.Makings.Module.{KeepsModules};
+ghost use Rattle.alpha_cmd.specs.SourceCommands.Module.{KeepsModules};
 ghost use Rattle.alpha_cmd.specs.Commands.Record.{KeepsUnder};
 ghost use Rattle.alpha_cmd.specs.Fixed.{Fixes};
-ghost use Rattle.alpha_cmd.specs.Promises.{EndsWhole, EndsCut, GivesOne, GivesThe, ServesUnder, SparesFiles, TakesInput, DrawsUnder, LeavesScript, EndsAsked, LosesNone};
+ghost use Rattle.alpha_cmd.specs.Promises.{EndsWhole, EndsCut, GivesOne, GivesThe, ServesUnder, SparesFiles};
+ghost use Rattle.alpha_cmd.specs.Promises.{TakesInput, DrawsUnder, LeavesScript, EndsAsked, LosesNone};
 ghost use Rattle.alpha_cmd.specs.Ran.{Ran};
 ghost use Rattle.alpha_cmd.specs.RunsAsked.{RunsAsked};
 ghost use Rattle.alpha_cmd.specs.ReadsNothing.{Unread, UnreadAlike};
@@ -49,7 +50,7 @@ pub fn alpha_main<H: Shelf, S: Source, K: Sink, N: Sink>(
     // The others are those of `alpha_top`, of the same words.
     ensures part { EndsCut (words_in arguments.now) result
         (called H.Shelf S.Source K.Sink N.Sink devices.old devices.new) }
-    ensures shelf { ServesUnder result (shelved H.Shelf devices.old.shelf devices.new.shelf) }
+    ensures shelf { ServesUnder result (shelf_change H.Shelf devices.old.shelf devices.new.shelf) }
     ensures files { SparesFiles (words_in arguments.now) result
         (H.files devices.old.shelf) (H.files devices.new.shelf) }
     ensures input { (devices.new.input ≡ devices.old.input) ⊎ TakesInput (words_in arguments.now) result }
@@ -62,9 +63,12 @@ pub fn alpha_main<H: Shelf, S: Source, K: Sink, N: Sink>(
         (called H.Shelf S.Source K.Sink N.Sink devices.old devices.new) }
     ensures exact { GivesThe (words_in arguments.now) result
         (called H.Shelf S.Source K.Sink N.Sink devices.old devices.new) }
-    ensures replied { Replies (words_in arguments.now) result (shelved H.Shelf devices.old.shelf devices.new.shelf) }
-    ensures restarts { Restarts (words_in arguments.now) result (shelved H.Shelf devices.old.shelf devices.new.shelf) }
-    ensures checked { Checked (words_in arguments.now) result (shelved H.Shelf devices.old.shelf devices.new.shelf) }
+    ensures replied { Replies (words_in arguments.now) result
+        (shelf_change H.Shelf devices.old.shelf devices.new.shelf) }
+    ensures restarts { Restarts (words_in arguments.now) result
+        (shelf_change H.Shelf devices.old.shelf devices.new.shelf) }
+    ensures checked { Checked (words_in arguments.now) result
+        (shelf_change H.Shelf devices.old.shelf devices.new.shelf) }
     ensures accepted { Accepts (words_in arguments.now) result
         (called H.Shelf S.Source K.Sink N.Sink devices.old devices.new) }
     ensures ran_told { RanTold (words_in arguments.now) result
@@ -83,7 +87,7 @@ pub fn alpha_main<H: Shelf, S: Source, K: Sink, N: Sink>(
         (H.files devices.old.shelf) (H.files devices.new.shelf) }
     ensures links { KeepsLinks (words_in arguments.now) result (H.files devices.old.shelf) (H.files devices.new.shelf) }
     ensures replays { ShowsRuns (words_in arguments.now) result (H.files devices.old.shelf) }
-    ensures recorded { KeepsUnder (Asks (words_in arguments.now)) result
+    ensures recorded { KeepsUnder (AsksFor (words_in arguments.now)) result
         (world H.Shelf S.Source devices.old.shelf devices.old.input) (H.files devices.new.shelf) }
 {
     match words_of(alloc, arguments) {

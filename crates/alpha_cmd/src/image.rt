@@ -2,10 +2,10 @@
 
 ghost use Rattle.std.specs.Prelude.{◌≡◌, ◌⊎◌, ◌^◌, ◌<◌, ℕ, List, IfOk, IfErr, OnOk, OnErr, None};
 ghost use Rattle.alpha_io.specs.History.{IsReadWhole};
-ghost use Rattle.alpha_io.specs.Shelved.{shelved};
+ghost use Rattle.alpha_io.specs.ShelfChange.{shelf_change};
 ghost use Rattle.alpha_image.specs.ImageFault.{first_fault};
-ghost use Rattle.alpha_image.specs.Parts.{Parts, IsImage, spelling};
-ghost use Rattle.alpha_cmd.specs.Outcome.{goes, stops};
+ghost use Rattle.alpha_image.specs.Parts.{Parts, IsImage, image_spelling};
+ghost use Rattle.alpha_cmd.specs.Outcome.{continues, stops};
 ghost use Rattle.alpha_cmd.specs.Status.{status_line};
 ghost use Rattle.alpha_shadow.specs.Broken.{IsAccepted};
 ghost use Rattle.alpha_cmd.specs.Image.{Reads, Spells, ImageOf, IsRefused};
@@ -27,7 +27,7 @@ pub const IMAGE_LIMIT: u64 = 18_874_368;
 ///
 /// `BadImage` with the first fault of the bytes. Memory runs out only where they have none.
 pub fn image_of(alloc: Global, bytes: Vec<u8>) -> Result<Image, Status>
-    ensures ok { IfOk result (λ image. Spells bytes.items (goes image)) }
+    ensures ok { IfOk result (λ image. Spells bytes.items (continues image)) }
     ensures refused { IfErr result (λ status. Spells bytes.items (stops status (status_line status))
         ⊎ ((status ≡ Status.NoMemory) × (first_fault bytes.items ≡ None))) }
 {
@@ -51,46 +51,46 @@ pub(crate) fn read_file<H: Shelf>(
     ensures whole { (file : List ℕ) → IsReadWhole (H.replies shelf.old) (H.replies shelf.new) name.now file
         → IfErr result (λ stop. stop ≡ Stop.Said Status.NoMemory) }
     ensures stage { Stage (Reads (H.files shelf.old) name.now limit) (λ bytes. bytes.items) result
-        (shelved H.Shelf shelf.old shelf.new) }
+        (shelf_change H.Shelf shelf.old shelf.new) }
 {
     match read_whole(alloc, shelf, name, limit) {
         Ok(bytes) => Ok(bytes),
-        Err(ReadFault::Shelf) => Err(Stop::Said(Status::ShelfFault)),
-        Err(ReadFault::TooLarge) => Err(Stop::Said(Status::TooLarge(limit))),
-        Err(ReadFault::NoMemory) => Err(Stop::Said(Status::NoMemory)),
+        Err(ReadFault::Shelf) => Err(Stop::OfStatus(Status::ShelfFault)),
+        Err(ReadFault::TooLarge) => Err(Stop::OfStatus(Status::TooLarge(limit))),
+        Err(ReadFault::NoMemory) => Err(Stop::OfStatus(Status::NoMemory)),
     }
 }
 
 /// The spelling of an image.
-pub(crate) fn spelled(alloc: Global, image: &Image) -> Result<Vec<u8>, Stop>
-    ensures ok { IfOk result (λ bytes. bytes.items ≡ spelling image.now) }
+pub(crate) fn bytes_of_image(alloc: Global, image: &Image) -> Result<Vec<u8>, Stop>
+    ensures ok { IfOk result (λ bytes. bytes.items ≡ image_spelling image.now) }
     ensures refused { IfErr result (λ stop. stop ≡ Stop.Said Status.NoMemory) }
 {
     match image_bytes(alloc, image) {
         Ok(bytes) => Ok(bytes),
-        Err(_) => Err(Stop::Said(Status::NoMemory)),
+        Err(_) => Err(Stop::OfStatus(Status::NoMemory)),
     }
 }
 
 /// The image of a file.
 pub(crate) fn load<H: Shelf>(alloc: Global, shelf: &mut H, name: &str) -> Result<Image, Stop>
     ensures read { IfOk result (λ image. IsImage image
-        × IsReadWhole (H.replies shelf.old) (H.replies shelf.new) name.now (spelling image)) }
+        × IsReadWhole (H.replies shelf.old) (H.replies shelf.new) name.now (image_spelling image)) }
     ensures whole { (image : Parts) → IsImage image
-        → IsReadWhole (H.replies shelf.old) (H.replies shelf.new) name.now (spelling image)
+        → IsReadWhole (H.replies shelf.old) (H.replies shelf.new) name.now (image_spelling image)
         → IfErr result (λ stop. stop ≡ Stop.Said Status.NoMemory) }
     ensures stage { Stage (ImageOf (H.files shelf.old) name.now) (λ image. image) result
-        (shelved H.Shelf shelf.old shelf.new) }
+        (shelf_change H.Shelf shelf.old shelf.new) }
 {
     let bytes = read_file(alloc, shelf, name, IMAGE_LIMIT)?;
     match image_of(alloc, bytes) {
         Ok(image) => Ok(image),
-        Err(status) => Err(Stop::Said(status)),
+        Err(status) => Err(Stop::OfStatus(status)),
     }
 }
 
 /// Judges an image.
-pub(crate) fn judged(image: &Image) -> Result<(), Stop>
+pub(crate) fn require_accepted(image: &Image) -> Result<(), Stop>
     ensures ok { OnOk result (IsAccepted image.now.words) }
     ensures refused { IfErr result (λ stop.
         IsRefused image.now (stop_status stop) (stop_line stop)) }

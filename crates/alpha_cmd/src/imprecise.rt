@@ -2,9 +2,9 @@
 
 ghost use Rattle.std.specs.Prelude.{◌≡◌, ◌⊎◌, ℕ, Bool, false, IfOk, IfErr, OnErr};
 ghost use Rattle.alpha_io.specs.History.{IsReadWhole};
-ghost use Rattle.alpha_io.specs.Shelved.{shelved};
-ghost use Rattle.alpha_io.specs.Sunk.{sunk};
-ghost use Rattle.alpha_image.specs.Parts.{Parts, IsImage, spelling};
+ghost use Rattle.alpha_io.specs.ShelfChange.{shelf_change};
+ghost use Rattle.alpha_io.specs.SinkChange.{sink_change};
+ghost use Rattle.alpha_image.specs.Parts.{Parts, IsImage, image_spelling};
 ghost use Rattle.alpha_shadow.specs.Broken.{IsAccepted};
 ghost use Rattle.alpha_seq.specs.Devices.{drawn};
 ghost use Rattle.alpha_request.specs.Origin.{seed};
@@ -13,17 +13,17 @@ ghost use Rattle.alpha_cmd.specs.Chooser.{ahead_in};
 ghost use Rattle.alpha_cmd.specs.Commands.Imprecise as wilds;
 ghost use Rattle.alpha_cmd.specs.Commands.Imprecise.{IsBegun, MayRun, Passes, PlanOf, Planned, plan_by, plan_in};
 ghost use Rattle.alpha_cmd.specs.Checked.{ReadsImage};
-ghost use Rattle.alpha_cmd.specs.Does.{Does};
+ghost use Rattle.alpha_cmd.specs.CommandEffect.{CommandEffect};
 ghost use Rattle.alpha_cmd.specs.Ends.{status_in};
 ghost use Rattle.alpha_cmd.specs.Ran.{EndsWhere, FailsOnTheWay, IsRunEnd};
 ghost use Rattle.alpha_cmd.specs.RunsAsked.{DecidesRun, WhereEnded};
 ghost use Rattle.alpha_cmd.specs.Stage.{Computes, Stage};
 
 use crate::Status;
-use crate::choosing::{Choosing, chooser_of};
+use crate::chooser::{Choosing, chooser_of};
 use crate::decision::Decision;
 use crate::devices::Devices;
-use crate::image::{judged, load};
+use crate::image::{load, require_accepted};
 use crate::stop::Stop;
 use alpha_image::Image;
 use alpha_imprecise::{CountingChooser, Wild};
@@ -70,20 +70,21 @@ pub(crate) fn imprecise<H: Shelf, S: Source, K: Sink, N: Sink>(
     asked: ImpreciseCall<'_>,
     devices: &mut Devices<H, S, K, N>,
 ) -> Result<Decision, Failed>
-    ensures does { Does H.Shelf S.Source K.Sink N.Sink
+    ensures does { CommandEffect H.Shelf S.Source K.Sink N.Sink
         (wilds.form asked.entry.options (origin_of asked.entry.choices) asked.entry.force asked.entry.file.now)
         result devices.old devices.new }
     ensures ran { (n : ℕ) → origin_of asked.entry.choices ≡ seed n → asked.entry.force ≡ false
         → WhereEnded result (λ decision.
-        ReadsImage (shelved H.Shelf devices.old.shelf devices.new.shelf) asked.entry.file.now
+        ReadsImage (shelf_change H.Shelf devices.old.shelf devices.new.shelf) asked.entry.file.now
         (λ image. IsAccepted image.words × DecidesRun asked.entry.options image decision
         (drawn S.Source devices.old.input devices.new.input)
-        (sunk K.Sink devices.old.out devices.new.out) (sunk N.Sink devices.old.notes devices.new.notes))) }
+        (sink_change K.Sink devices.old.out devices.new.out)
+        (sink_change N.Sink devices.old.notes devices.new.notes))) }
     ensures ends { (n : ℕ) → origin_of asked.entry.choices ≡ seed n → asked.entry.force ≡ false
         → EndsWhere (λ image. IsAccepted image.words) asked.entry.file.now (status_in result)
-        (shelved H.Shelf devices.old.shelf devices.new.shelf) }
+        (shelf_change H.Shelf devices.old.shelf devices.new.shelf) }
 {
-    match prepared(alloc, &asked, &mut devices.shelf) {
+    match prepare(alloc, &asked, &mut devices.shelf) {
         Ok(mut begun) => run_begun(&mut begun, asked.options, devices),
         Err(stop) => Ok(Decision::stopped(stop)),
     }
@@ -92,41 +93,41 @@ pub(crate) fn imprecise<H: Shelf, S: Source, K: Sink, N: Sink>(
 /// Reads the image of a file and then the choices, judges the image unless the verdict is passed over, and
 /// makes the machine. So nothing is put and nothing taken before it has all of its memory.
 #[inline(never)]
-pub(crate) fn prepared<H: Shelf>(
+pub(crate) fn prepare<H: Shelf>(
     alloc: Global,
     asked: &ImpreciseCall<'_>,
     shelf: &mut H,
 ) -> Result<Begun, Stop>
     ensures stage { Stage
         (Planned (origin_of asked.now.choices) asked.now.force asked.now.file.now (H.files shelf.old))
-        (λ begun. plan_in begun) result (shelved H.Shelf shelf.old shelf.new) }
+        (λ begun. plan_in begun) result (shelf_change H.Shelf shelf.old shelf.new) }
     ensures begun { IfOk result (IsBegun asked.now.options) }
     ensures read { (n : ℕ) → origin_of asked.now.choices ≡ seed n → IfOk result (λ begun.
         IsImage (plan_in begun).image × IsReadWhole (H.replies shelf.old) (H.replies shelf.new)
-        asked.now.file.now (spelling (plan_in begun).image)) }
+        asked.now.file.now (image_spelling (plan_in begun).image)) }
     ensures whole { (n : ℕ) (image : Parts) → origin_of asked.now.choices ≡ seed n → IsImage image
         → IsAccepted image.words
-        → IsReadWhole (H.replies shelf.old) (H.replies shelf.new) asked.now.file.now (spelling image)
+        → IsReadWhole (H.replies shelf.old) (H.replies shelf.new) asked.now.file.now (image_spelling image)
         → IfErr result (λ stop. stop ≡ Stop.Said Status.NoMemory) }
 {
-    let plan = planned(alloc, asked.file, &asked.choices, shelf)?;
-    passed(&plan, asked.force)?;
+    let plan = read_plan(alloc, asked.file, &asked.choices, shelf)?;
+    require_pass(&plan, asked.force)?;
     begin(alloc, plan, asked.options)
 }
 
 // Reads the image of a file, and then the choices.
-fn planned<H: Shelf>(
+fn read_plan<H: Shelf>(
     alloc: Global,
     file: &str,
     choices: &Choices<'_>,
     shelf: &mut H,
 ) -> Result<Plan, Stop>
     ensures stage { Stage (PlanOf (H.files shelf.old) file.now (origin_of choices.now))
-        (λ plan. plan_by plan.image (ahead_in plan.chooser)) result (shelved H.Shelf shelf.old shelf.new) }
+        (λ plan. plan_by plan.image (ahead_in plan.chooser)) result (shelf_change H.Shelf shelf.old shelf.new) }
     ensures read { (n : ℕ) → origin_of choices.now ≡ seed n → IfOk result (λ plan. IsImage plan.image
-        × IsReadWhole (H.replies shelf.old) (H.replies shelf.new) file.now (spelling plan.image)) }
+        × IsReadWhole (H.replies shelf.old) (H.replies shelf.new) file.now (image_spelling plan.image)) }
     ensures whole { (n : ℕ) (image : Parts) → origin_of choices.now ≡ seed n → IsImage image
-        → IsReadWhole (H.replies shelf.old) (H.replies shelf.new) file.now (spelling image)
+        → IsReadWhole (H.replies shelf.old) (H.replies shelf.new) file.now (image_spelling image)
         → IfErr result (λ stop. stop ≡ Stop.Said Status.NoMemory) }
 {
     let image = load(alloc, shelf, file)?;
@@ -135,12 +136,16 @@ fn planned<H: Shelf>(
 }
 
 // Judges the image of a plan, unless the verdict is passed over.
-fn passed(plan: &Plan, force: bool) -> Result<(), Stop>
+fn require_pass(plan: &Plan, force: bool) -> Result<(), Stop>
     ensures whole { IsAccepted plan.now.image.words → OnErr result ⊥ }
     ensures computes { Computes (Passes force (plan_by plan.now.image (ahead_in plan.now.chooser)))
         (λ _. plan_by plan.now.image (ahead_in plan.now.chooser)) result }
 {
-    if force { Ok(()) } else { judged(&plan.image) }
+    if force {
+        Ok(())
+    } else {
+        require_accepted(&plan.image)
+    }
 }
 
 // A machine at the start of an image's program.
@@ -155,7 +160,7 @@ fn begin(alloc: Global, plan: Plan, options: RunOptions) -> Result<Begun, Stop>
             let chooser = CountingChooser::new(plan.chooser);
             Ok(Begun { wild, chooser })
         }
-        Err(_) => Err(Stop::Said(Status::NoMemory)),
+        Err(_) => Err(Stop::OfStatus(Status::NoMemory)),
     }
 }
 
@@ -167,12 +172,12 @@ fn run_begun<H: Shelf, S: Source, K: Sink, N: Sink>(
 ) -> Result<Decision, Failed>
     requires { IsBegun options begun.old }
     ensures does { (force : Bool) → MayRun force (plan_in begun.old)
-        → Does H.Shelf S.Source K.Sink N.Sink (wilds.on options force (plan_in begun.old)) result
+        → CommandEffect H.Shelf S.Source K.Sink N.Sink (wilds.on options force (plan_in begun.old)) result
         devices.old devices.new }
     ensures ran { MayRun false (plan_in begun.old)
         → WhereEnded result (λ decision. DecidesRun options (plan_in begun.old).image decision
         (drawn S.Source devices.old.input devices.new.input)
-        (sunk K.Sink devices.old.out devices.new.out) (sunk N.Sink devices.old.notes devices.new.notes)) }
+        (sink_change K.Sink devices.old.out devices.new.out) (sink_change N.Sink devices.old.notes devices.new.notes)) }
     ensures ends { MayRun false (plan_in begun.old) → IsRunEnd (status_in result) ⊎ FailsOnTheWay (status_in result) }
     ensures shelf { devices.new.shelf ≡ devices.old.shelf }
 {
@@ -186,7 +191,7 @@ fn run_begun<H: Shelf, S: Source, K: Sink, N: Sink>(
         &mut left,
         options.watch,
     ) {
-        Ok(last) => Ok(Decision::behind(last, begun.chooser.drawn())),
+        Ok(last) => Ok(Decision::after_run(last, begun.chooser.drawn())),
         Err(fault) => Decision::cut_short(fault),
     }
 }

@@ -1,6 +1,6 @@
 ghost use Rattle.std.specs.Prelude.{◌≡◌, ◌≤◌, ◌↔◌, ℕ, Bool, List, length, Some, IsSome};
 ghost use Rattle.alpha_io.specs.Files.{Files, HasFile};
-ghost use Rattle.alpha_image.specs.Parts.{Parts, IsImage, spelling};
+ghost use Rattle.alpha_image.specs.Parts.{Parts, IsImage, image_spelling};
 ghost use Rattle.alpha_shadow.specs.Broken.{IsAccepted};
 ghost use Rattle.alpha_round.specs.Source.{IsSourceOf};
 ghost use Rattle.alpha_request.specs.Origin as choices;
@@ -9,7 +9,7 @@ ghost use Rattle.alpha_request.specs.declared.options.RunOptions.{RunOptions};
 ghost use Rattle.alpha_imprecise.specs.Restart.{IsRestartable};
 ghost use Rattle.alpha_cmd.specs.declared.status.Status.{Status};
 ghost use Rattle.alpha_cmd.specs.declared.status.Status.TheVariants.{Done};
-ghost use Rattle.alpha_cmd.specs.Outcome.{goes};
+ghost use Rattle.alpha_cmd.specs.Outcome.{continues};
 ghost use Rattle.alpha_cmd.specs.Image.{ImageOf};
 ghost use Rattle.alpha_cmd.specs.Alike.{Alike, HaveWords};
 ghost use Rattle.alpha_cmd.specs.AlikeByAnswers.{AlikeByAnswers, HasWords, IsChecked, undrawn};
@@ -20,7 +20,7 @@ ghost use Rattle.alpha_cmd.specs.ChoicesLimit.{choices_limit};
 ghost use Rattle.alpha_cmd.specs.OfImage.Dis as listings;
 ghost use Rattle.alpha_cmd.specs.Commands.Imprecise as wilds;
 ghost use Rattle.alpha_cmd.specs.Commands.Link.{HasAccepted};
-ghost use Rattle.alpha_cmd.specs.Makings.Module.{KeepsModule};
+ghost use Rattle.alpha_cmd.specs.SourceCommands.Module.{KeepsModule};
 ghost use Rattle.alpha_cmd.specs.Commands.Record as records;
 ghost use Rattle.alpha_cmd.specs.Commands.Record.{KeepsRun};
 ghost use Rattle.alpha_cmd.specs.Commands.Replay as replays;
@@ -44,7 +44,7 @@ pub fn laws_of_answers()
 pub fn laws_of_listed_files()
     ensures { (file : List ℕ) (w : World) (a : Answer) → AnswerBy (listings.steps file) w a
         → a.status ≡ Done 0
-        → (image : Parts) × ImageOf w.files file (goes image) × IsSourceOf a.output image }
+        → (image : Parts) × ImageOf w.files file (continues image) × IsSourceOf a.output image }
 {}
 
 /// The law of restarts: an accepted image can be restarted after each late trap, whatever the
@@ -82,7 +82,7 @@ pub fn laws_of_told_runs()
         → IsSome w.files → w.input ≡ Some bytes → IsChecked file w
         → AnswerBy (runs.steps options file) w a
         → (image : Parts) × IsImage image × IsAccepted image.words
-        × HasFile w.files file (spelling image) × (a ≡ answer_told options image bytes) }
+        × HasFile w.files file (image_spelling image) × (a ≡ answer_told options image bytes) }
 {}
 
 /// The laws of programs that read nothing in the steps that are asked for. Where the image of a told file is
@@ -92,20 +92,20 @@ pub fn laws_of_told_runs()
 /// number of words that it draws.
 pub fn laws_of_unread_inputs()
     ensures run { (options : RunOptions) (file : List ℕ) (image : Parts) (w : World) (a : Answer)
-        → IsSome w.files → ImageOf w.files file (goes image) → ReadsNothing options image
+        → IsSome w.files → ImageOf w.files file (continues image) → ReadsNothing options image
         → AnswerBy (runs.steps options file) w a → a ≡ answer_unread options image w.input }
     ensures some_run { (options : RunOptions) (file : List ℕ) (image : Parts) (w : World)
-        → ImageOf w.files file (goes image) → ReadsNothing options image
+        → ImageOf w.files file (continues image) → ReadsNothing options image
         → AnswerBy (runs.steps options file) w (answer_unread options image w.input) }
     ensures imprecise { (options : RunOptions) (choices : Origin) (force : Bool) (file : List ℕ)
         (image : Parts) (w : World) (b : Answer) → IsSome w.files
-        → ImageOf w.files file (goes image) → ReadsNothing options image
+        → ImageOf w.files file (continues image) → ReadsNothing options image
         → HasWords w.files choices → IsChecked file w
         → AnswerBy (wilds.steps options choices force file) w b
         → undrawn b ≡ answer_unread options image w.input }
     ensures some_imprecise { (options : RunOptions) (choices : Origin) (force : Bool)
         (file : List ℕ) (image : Parts) (w : World) → IsSome w.files
-        → ImageOf w.files file (goes image) → ReadsNothing options image
+        → ImageOf w.files file (continues image) → ReadsNothing options image
         → HasWords w.files choices → IsChecked file w
         → (b : Answer) × AnswerBy (wilds.steps options choices force file) w b
         × (undrawn b ≡ answer_unread options image w.input) }
@@ -117,15 +117,15 @@ pub fn laws_of_unread_inputs()
 /// [`alpha_top`](crate::alpha_top) ask can be met: with a seed, they hold of each accepted image.
 pub fn laws_of_accepted_files()
     ensures spelled { (image : Parts) (files : Files) (file : List ℕ) → IsImage image
-        → HasFile files file (spelling image) → ImageOf files file (goes image) }
+        → HasFile files file (image_spelling image) → ImageOf files file (continues image) }
     ensures checked { (image : Parts) (w : World) (file : List ℕ) → IsImage image
-        → IsAccepted image.words → HasFile w.files file (spelling image) → IsChecked file w }
+        → IsAccepted image.words → HasFile w.files file (image_spelling image) → IsChecked file w }
     ensures seeds { (files : Files) (n : ℕ) → HasWords files (choices.seed n) }
     ensures listed { (files : Files) (name bytes : List ℕ) → HasFile files name bytes
         → length bytes ≤ choices_limit → HasWords files (choices.file name) }
     ensures alike { (image : Parts) (options : RunOptions) (n : ℕ) (force : Bool) (file : List ℕ)
         (w : World) (a b : Answer) → IsImage image → IsAccepted image.words → IsSome w.files
-        → IsSome w.input → HasFile w.files file (spelling image)
+        → IsSome w.input → HasFile w.files file (image_spelling image)
         → AnswerBy (runs.steps options file) w a
         → AnswerBy (wilds.steps options (choices.seed n) force file) w b → undrawn b ≡ a }
 {}
@@ -143,7 +143,7 @@ pub fn laws_of_records()
     ensures { (options : RunOptions) (choices : Origin) (force : Bool) (file out : List ℕ)
         (w v : World) (a : Answer) → IsSome w.input → IsSome v.files
         → KeepsRun options choices force file out w v.files
-        → ((image : Parts) → ImageOf w.files file (goes image) → ImageOf v.files file (goes image))
+        → ((image : Parts) → ImageOf w.files file (continues image) → ImageOf v.files file (continues image))
         → AnswerBy (replays.steps file out) v a → a.status ≡ Done 0 }
 {}
 

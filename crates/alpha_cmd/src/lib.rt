@@ -6,7 +6,7 @@
 //!   put together from stages, whose order is the order of refusals (`specs/Outcome.antt`), and has
 //!   one module (`specs/Commands.antt`); what is the same of all of them is said by their form
 //!   (`specs/Form.antt`). A fault of a device or want of memory may cut a call short, and then a part
-//!   of an answer, or the line of that status, was written (`specs/Tries.antt`, `specs/Ends.antt`).
+//!   of an answer, or the line of that status, was written (`specs/Attempts.antt`, `specs/Ends.antt`).
 //! - [`alpha_main`] is that call by all that stands on the command line: the program, but for its real
 //!   devices. [`alpha_sure`] is the same call over devices that never fail.
 //! - [`image_of`] makes the image of a file's bytes.
@@ -30,22 +30,22 @@
 //! A command makes a `Decision` (`decision.rt`), which writes what is then still to be written: all
 //! of it, but for a command that writes while it works, as `run.rt`. `alpha_request` reads the
 //! words, and `top.rt` matches what is asked; `entry.rt` and `sure.rt` call it. `image.rt` has the
-//! stages that lead to an image, `choosing.rt` the one that leads to the words of an imprecise run,
+//! stages that lead to an image, `chooser.rt` the one that leads to the words of an imprecise run,
 //! `keep.rt` the one that keeps a file. A stage of any command that goes no further answers a
 //! `Stop` (`stop.rt`). Each command has a module: `run.rt`, `imprecise.rt`, `record.rt`,
 //! `replay.rt`, `link.rt`, `trial.rt`. What is made of a source and kept is one command,
-//! `making.rt`, and what is asked of an image is another, `of_image.rt`: a value says what, and the
+//! `source_commands.rt`, and what is asked of an image is another, `of_image.rt`: a value says what, and the
 //! stage of each has a module below: `making/asm.rt`, `fix.rt` and `module.rt`, and
 //! `of_image/check.rt`, `debug.rt` and `dis.rt`.
 //!
-//! What a command did to the devices (`devices.rt`) is one relation, `specs/Does.antt`, and what a
+//! What a command did to the devices (`devices.rt`) is one relation, `specs/CommandEffect.antt`, and what a
 //! stage did is in `specs/Stage.antt`; `laws.rt` has what follows of answers alone. `status.rt`,
 //! `line.rt` and `specs/Status.antt` have the number, the line and the class of each status,
 //! `specs/Kept.antt` says what becomes of files. What a further command or status touches is listed
 //! in docs/ARCHITECTURE.md.
 #![tactic(auto)]
 
-mod choosing;
+mod chooser;
 mod decision;
 mod devices;
 mod entry;
@@ -55,11 +55,11 @@ mod keep;
 mod laws;
 mod line;
 mod link;
-mod making;
 mod of_image;
 mod record;
 mod replay;
 mod run;
+mod source_commands;
 mod status;
 mod stop;
 mod sure;
@@ -77,7 +77,7 @@ pub use laws::{
     laws_of_unread_inputs,
 };
 pub use link::MODULE_LIMIT;
-pub use making::SOURCE_LIMIT;
+pub use source_commands::SOURCE_LIMIT;
 pub use status::Status;
 pub use sure::alpha_sure;
 pub use top::alpha_top;

@@ -3,7 +3,9 @@
 ghost use Rattle.std.specs.Prelude.{◌≡◌, ◌≤◌, length};
 ghost use Rattle.alpha_io.specs.declared.line.TheConstants.{LINE_ROOM};
 ghost use Rattle.alpha_cmd.specs.Commands.Replay.{run_line};
-ghost use Rattle.alpha_cmd.specs.Status.{status_line, fault_line, fixing_line, journal_line, kind_line, kind_number, limit_line, link_fault_line, lost_line, module_fault_line, module_line, norun_line, numbered_line, placed_line, refusal_line, unfixable_line};
+ghost use Rattle.alpha_cmd.specs.Status.{status_line, fault_line, fixing_line, journal_line, kind_line, kind_number};
+ghost use Rattle.alpha_cmd.specs.Status.{limit_line, link_fault_line, lost_line, module_fault_line, module_line};
+ghost use Rattle.alpha_cmd.specs.Status.{norun_line, numbered_line, placed_line, refusal_line, unfixable_line};
 
 use crate::Status;
 use alpha_asm::AsmFault;

@@ -2,11 +2,11 @@
 
 ghost use Rattle.std.specs.Prelude.{◌≡◌, ◌≤◌, ℕ, List, IfOk, length, map};
 ghost use Rattle.alpha_image.specs.Parts as images;
-ghost use Rattle.alpha_io.specs.Shelved.{shelved};
-ghost use Rattle.alpha_cmd.specs.Outcome.{goes, Then};
+ghost use Rattle.alpha_io.specs.ShelfChange.{shelf_change};
+ghost use Rattle.alpha_cmd.specs.Outcome.{continues, Then};
 ghost use Rattle.alpha_cmd.specs.Commands.Link as links;
-ghost use Rattle.alpha_cmd.specs.Commands.Link.{FilesOf, ModuleOf, ModulesOf, Links, Makes};
-ghost use Rattle.alpha_cmd.specs.Does.{Does};
+ghost use Rattle.alpha_cmd.specs.Commands.Link.{FilesOf, ModuleOf, ModulesOf, Links, LinksFiles};
+ghost use Rattle.alpha_cmd.specs.CommandEffect.{CommandEffect};
 ghost use Rattle.alpha_cmd.specs.Ends.{status_in};
 ghost use Rattle.alpha_cmd.specs.Replied.{IsReadEach, KeepsLinked};
 ghost use Rattle.alpha_cmd.specs.Stage.{Computes, Stage};
@@ -14,7 +14,7 @@ ghost use Rattle.alpha_cmd.specs.Stage.{Computes, Stage};
 use crate::Status;
 use crate::decision::Decision;
 use crate::devices::Devices;
-use crate::image::{read_file, spelled};
+use crate::image::{bytes_of_image, read_file};
 use crate::keep::keep_as;
 use crate::stop::Stop;
 use alpha_image::Image;
@@ -37,13 +37,13 @@ pub(crate) fn link<H: Shelf, S: Source, K: Sink, N: Sink>(
 ) -> Result<Decision, Failed>
     requires { length files.now ≤ 64 }
     ensures kept { status_in result ≡ Status.Done 0
-        → KeepsLinked (shelved H.Shelf devices.old.shelf devices.new.shelf)
+        → KeepsLinked (shelf_change H.Shelf devices.old.shelf devices.new.shelf)
         entry.now out.now (map (λ name. name.now) files.now) }
-    ensures does { Does H.Shelf S.Source K.Sink N.Sink
+    ensures does { CommandEffect H.Shelf S.Source K.Sink N.Sink
         (links.form entry.now out.now (map (λ name. name.now) files.now)) result
         devices.old devices.new }
 {
-    match made(alloc, entry, files, &mut devices.shelf) {
+    match read_and_link(alloc, entry, files, &mut devices.shelf) {
         Ok(bytes) => Ok(keep_as(bytes.as_slice(), out, &mut devices.shelf)),
         Err(stop) => Ok(Decision::stopped(stop)),
     }
@@ -51,7 +51,7 @@ pub(crate) fn link<H: Shelf, S: Source, K: Sink, N: Sink>(
 
 // The spelling of the image that the modules of files link to.
 #[inline(never)]
-fn made<H: Shelf>(
+fn read_and_link<H: Shelf>(
     alloc: Global,
     entry: &str,
     names: &[&str],
@@ -60,12 +60,12 @@ fn made<H: Shelf>(
     requires { length names.now ≤ 64 }
     ensures read { IfOk result (λ bytes. (files : List (List ℕ))
         × IsReadEach (H.replies shelf.old) (H.replies shelf.new) (map (λ name. name.now) names.now) files
-        × Then (ModulesOf files) (Links entry.now) (goes bytes.items)) }
-    ensures stage { Stage (Makes (H.files shelf.old) entry.now (map (λ name. name.now) names.now))
-        (λ bytes. bytes.items) result (shelved H.Shelf shelf.old shelf.new) }
+        × Then (ModulesOf files) (Links entry.now) (continues bytes.items)) }
+    ensures stage { Stage (LinksFiles (H.files shelf.old) entry.now (map (λ name. name.now) names.now))
+        (λ bytes. bytes.items) result (shelf_change H.Shelf shelf.old shelf.new) }
 {
     let files = read_files(alloc, names, shelf)?;
-    linked(alloc, entry, files)
+    link_files(alloc, entry, files)
 }
 
 // The bytes of files within the limit of modules, read in the order of their names.
@@ -73,14 +73,14 @@ fn read_files<H: Shelf>(alloc: Global, names: &[&str], shelf: &mut H) -> Result<
     ensures read { IfOk result (λ all. IsReadEach (H.replies shelf.old) (H.replies shelf.new)
         (map (λ name. name.now) names.now) (map (λ file. file.items) all.items)) }
     ensures found { Stage (FilesOf (H.files shelf.old) (map (λ name. name.now) names.now))
-        (λ all. map (λ file. file.items) all.items) result (shelved H.Shelf shelf.old shelf.new) }
+        (λ all. map (λ file. file.items) all.items) result (shelf_change H.Shelf shelf.old shelf.new) }
     ensures count { IfOk result (λ all. length all.items ≡ length names.now) }
 {
     let mut all = Vec::new(alloc);
     for name in names {
         let bytes = read_file(alloc, shelf, name, MODULE_LIMIT)?;
         let Ok(()) = all.push(bytes) else {
-            return Err(Stop::Said(Status::NoMemory));
+            return Err(Stop::OfStatus(Status::NoMemory));
         };
     }
     Ok(all)
@@ -88,23 +88,23 @@ fn read_files<H: Shelf>(alloc: Global, names: &[&str], shelf: &mut H) -> Result<
 
 // The spelling of the image that the modules of files link to, by the bytes of the files. These and the
 // modules are let go before the image is spelled.
-fn linked(alloc: Global, entry: &str, files: Vec<Vec<u8>>) -> Result<Vec<u8>, Stop>
+fn link_files(alloc: Global, entry: &str, files: Vec<Vec<u8>>) -> Result<Vec<u8>, Stop>
     requires { length files.items ≤ 64 }
     ensures { Computes (Then (ModulesOf (map (λ file. file.items) files.items)) (Links entry.now))
         (λ bytes. bytes.items) result }
 {
     let image = linked_image(alloc, entry, files)?;
-    spelled(alloc, &image)
+    bytes_of_image(alloc, &image)
 }
 
 // The image that the modules of files link to.
 fn linked_image(alloc: Global, entry: &str, files: Vec<Vec<u8>>) -> Result<Image, Stop>
     requires { length files.items ≤ 64 }
     ensures { Computes (Then (ModulesOf (map (λ file. file.items) files.items)) (Links entry.now))
-        (λ image. images.spelling image) result }
+        (λ image. images.image_spelling image) result }
 {
     let modules = modules_of(alloc, files.as_slice())?;
-    joined(alloc, entry, modules.as_slice())
+    link_modules(alloc, entry, modules.as_slice())
 }
 
 // The modules that the bytes of files spell.
@@ -118,7 +118,7 @@ fn modules_of<'a>(alloc: Global, files: &'a [Vec<u8>]) -> Result<Vec<Module<'a>>
     for (number, bytes) in files.iter().enumerate() {
         let module = module_of(alloc, number as u32, bytes.as_slice())?;
         let Ok(()) = all.push(module) else {
-            return Err(Stop::Said(Status::NoMemory));
+            return Err(Stop::OfStatus(Status::NoMemory));
         };
     }
     Ok(all)
@@ -130,19 +130,19 @@ fn module_of<'a>(alloc: Global, number: u32, bytes: &'a [u8]) -> Result<Module<'
 {
     match read_module(alloc, bytes) {
         Ok(module) => Ok(module),
-        Err(ModuleFault::NoMemory) => Err(Stop::Said(Status::NoMemory)),
-        Err(fault) => Err(Stop::Said(Status::BadModule(number, fault))),
+        Err(ModuleFault::NoMemory) => Err(Stop::OfStatus(Status::NoMemory)),
+        Err(fault) => Err(Stop::OfStatus(Status::BadModule(number, fault))),
     }
 }
 
 // The image that modules link to.
-fn joined(alloc: Global, entry: &str, modules: &[Module<'_>]) -> Result<Image, Stop>
+fn link_modules(alloc: Global, entry: &str, modules: &[Module<'_>]) -> Result<Image, Stop>
     requires { length modules.now ≤ 64 }
-    ensures { Computes (Links entry.now modules.now) (λ image. images.spelling image) result }
+    ensures { Computes (Links entry.now modules.now) (λ image. images.image_spelling image) result }
 {
     match alpha_link::link(alloc, modules, entry.as_bytes()) {
         Ok(image) => Ok(image),
-        Err(LinkFault::NoMemory) => Err(Stop::Said(Status::NoMemory)),
-        Err(fault) => Err(Stop::Said(Status::BadLink(fault))),
+        Err(LinkFault::NoMemory) => Err(Stop::OfStatus(Status::NoMemory)),
+        Err(fault) => Err(Stop::OfStatus(Status::BadLink(fault))),
     }
 }

@@ -1,12 +1,12 @@
 //! `check FILE`, `dis FILE` and `debug FILE`: what is asked of an image.
 
 ghost use Rattle.std.specs.Prelude.{◌≡◌};
-ghost use Rattle.alpha_io.specs.Shelved.{shelved};
+ghost use Rattle.alpha_io.specs.ShelfChange.{shelf_change};
 ghost use Rattle.alpha_shadow.specs.Broken.{IsAccepted};
 ghost use Rattle.alpha_request.specs.declared.request.ImageCommand.TheVariants as asked;
 ghost use Rattle.alpha_cmd.specs.OfImage.Debug.{LeavesTail, script_most};
 ghost use Rattle.alpha_cmd.specs.Checked.{ReadsImage};
-ghost use Rattle.alpha_cmd.specs.Does.{Does};
+ghost use Rattle.alpha_cmd.specs.CommandEffect.{CommandEffect};
 ghost use Rattle.alpha_cmd.specs.Ends.{status_in};
 ghost use Rattle.alpha_cmd.specs.OfImage as images;
 
@@ -27,18 +27,20 @@ mod dis;
 #[inline(never)]
 pub(crate) fn of_image<H: Shelf, S: Source, K: Sink, N: Sink>(
     alloc: Global,
-    what: ImageCommand,
+    command: ImageCommand,
     file: &str,
     devices: &mut Devices<H, S, K, N>,
 ) -> Result<Decision, Failed>
-    ensures checked { what ≡ asked.Check → status_in result ≡ Status.Done 0
-        → ReadsImage (shelved H.Shelf devices.old.shelf devices.new.shelf) file.now (λ image. IsAccepted image.words) }
-    ensures does { Does H.Shelf S.Source K.Sink N.Sink (images.form what file.now) result devices.old devices.new }
-    ensures script { what ≡ asked.Debug
+    ensures checked { command ≡ asked.Check → status_in result ≡ Status.Done 0
+        → ReadsImage (shelf_change H.Shelf devices.old.shelf devices.new.shelf) file.now
+        (λ image. IsAccepted image.words) }
+    ensures does { CommandEffect H.Shelf S.Source K.Sink N.Sink
+        (images.form command file.now) result devices.old devices.new }
+    ensures script { command ≡ asked.Debug
         → LeavesTail script_most (S.left devices.old.input) (S.left devices.new.input) }
 {
     match load(alloc, &mut devices.shelf, file) {
-        Ok(image) => on_image(alloc, what, image, devices),
+        Ok(image) => on_image(alloc, command, image, devices),
         Err(stop) => Ok(Decision::stopped(stop)),
     }
 }
@@ -46,19 +48,20 @@ pub(crate) fn of_image<H: Shelf, S: Source, K: Sink, N: Sink>(
 // Does what is asked of an image.
 fn on_image<H: Shelf, S: Source, K: Sink, N: Sink>(
     alloc: Global,
-    what: ImageCommand,
+    command: ImageCommand,
     image: Image,
     devices: &mut Devices<H, S, K, N>,
 ) -> Result<Decision, Failed>
-    ensures same { what ≡ asked.Check → devices.new.shelf ≡ devices.old.shelf }
-    ensures accepted { what ≡ asked.Check → status_in result ≡ Status.Done 0 → IsAccepted image.words }
-    ensures does { Does H.Shelf S.Source K.Sink N.Sink (images.on what image) result devices.old devices.new }
-    ensures script { what ≡ asked.Debug
+    ensures same { command ≡ asked.Check → devices.new.shelf ≡ devices.old.shelf }
+    ensures accepted { command ≡ asked.Check → status_in result ≡ Status.Done 0 → IsAccepted image.words }
+    ensures does { CommandEffect H.Shelf S.Source K.Sink N.Sink (images.on command image) result
+        devices.old devices.new }
+    ensures script { command ≡ asked.Debug
         → LeavesTail script_most (S.left devices.old.input) (S.left devices.new.input) }
 {
-    match what {
-        ImageCommand::Check => Ok(check::judged(&image)),
-        ImageCommand::Dis => dis::listed(&image, devices),
+    match command {
+        ImageCommand::Check => Ok(check::check_image(&image)),
+        ImageCommand::Dis => dis::list_image(&image, devices),
         ImageCommand::Debug => debug::session(alloc, image, devices),
     }
 }

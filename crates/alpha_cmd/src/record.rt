@@ -2,27 +2,27 @@
 //! file.
 
 ghost use Rattle.std.specs.Prelude.{◌≡◌, ◌≢◌, ℕ, List, Bool, Option, length};
-ghost use Rattle.alpha_io.specs.Faults.{Rose};
+ghost use Rattle.alpha_io.specs.Faults.{Faulted};
 ghost use Rattle.alpha_io.specs.Files.{HasFile, Refuses};
-ghost use Rattle.alpha_io.specs.Shelved.{shelved};
-ghost use Rattle.alpha_io.specs.Sunk.{sunk};
+ghost use Rattle.alpha_io.specs.ShelfChange.{shelf_change};
+ghost use Rattle.alpha_io.specs.SinkChange.{sink_change};
 ghost use Rattle.alpha_request.specs.Options.{origin_of};
 ghost use Rattle.alpha_seq.specs.Devices.{LeavesEnd, drawn};
 ghost use Rattle.alpha_seq.specs.declared.end.End.{End};
-ghost use Rattle.alpha_imprecise.specs.Made.{LostTrap};
+ghost use Rattle.alpha_imprecise.specs.ChosenRun.{LostTrap};
 ghost use Rattle.alpha_replay.specs.Journal.{IsJournal, Parts, spelling};
 ghost use Rattle.alpha_cmd.specs.AnswerBy.{world};
-ghost use Rattle.alpha_cmd.specs.Commands.Imprecise.{IsBegun, MayRun, plan_in, wild_status};
+ghost use Rattle.alpha_cmd.specs.Commands.Imprecise.{IsBegun, MayRun, plan_in, imprecise_status};
 ghost use Rattle.alpha_cmd.specs.Commands.Record as recordings;
 ghost use Rattle.alpha_cmd.specs.Commands.Record.{HasJournal, IsOver, KeepsRun, KeptBehind, RunsOn, WhenMade, WhenOver};
-ghost use Rattle.alpha_cmd.specs.Does.{Does};
+ghost use Rattle.alpha_cmd.specs.CommandEffect.{CommandEffect};
 ghost use Rattle.alpha_cmd.specs.Ends.{status_in};
 ghost use Rattle.alpha_cmd.specs.Kept.{Serves};
 
 use crate::Status;
 use crate::decision::Decision;
 use crate::devices::Devices;
-use crate::imprecise::{Begun, ImpreciseCall, prepared};
+use crate::imprecise::{Begun, ImpreciseCall, prepare};
 use alpha_io::{Failed, Shelf, Sink, Source};
 use alpha_replay::{Journal, JournalEnd, journal_bytes, make_journal};
 use alpha_request::RunOptions;
@@ -46,16 +46,16 @@ pub(crate) fn record<H: Shelf, S: Source, K: Sink, N: Sink>(
     name: &str,
     devices: &mut Devices<H, S, K, N>,
 ) -> Result<Decision, Failed>
-    ensures does { Does H.Shelf S.Source K.Sink N.Sink
+    ensures does { CommandEffect H.Shelf S.Source K.Sink N.Sink
         (recordings.form asked.entry.options (origin_of asked.entry.choices) asked.entry.force
         asked.entry.file.now name.now) result devices.old devices.new }
     ensures keeps { (end : Option End) (lost : Option LostTrap) (n : ℕ)
-        → status_in result ≡ wild_status end lost n
+        → status_in result ≡ imprecise_status end lost n
         → KeepsRun asked.entry.options (origin_of asked.entry.choices) asked.entry.force
         asked.entry.file.now name.now (world H.Shelf S.Source devices.old.shelf devices.old.input)
         (H.files devices.new.shelf) }
 {
-    match prepared(alloc, &asked, &mut devices.shelf) {
+    match prepare(alloc, &asked, &mut devices.shelf) {
         Ok(mut begun) => record_begun(alloc, &mut begun, asked.options, name, devices),
         Err(stop) => Ok(Decision::stopped(stop)),
     }
@@ -72,11 +72,11 @@ fn record_begun<H: Shelf, S: Source, K: Sink, N: Sink>(
 ) -> Result<Decision, Failed>
     requires { IsBegun options begun.old }
     ensures does { (force : Bool) → MayRun force (plan_in begun.old)
-        → Does H.Shelf S.Source K.Sink N.Sink
+        → CommandEffect H.Shelf S.Source K.Sink N.Sink
         (recordings.on options force name.now (plan_in begun.old)) result devices.old devices.new }
     ensures keeps { (force : Bool) → MayRun force (plan_in begun.old)
         → (end : Option End) (lost : Option LostTrap) (n : ℕ)
-        → status_in result ≡ wild_status end lost n
+        → status_in result ≡ imprecise_status end lost n
         → (p : Parts) × IsJournal p × HasJournal options (S.left devices.old.input) (plan_in begun.old) p
         × HasFile (H.files devices.new.shelf) name.now (spelling p) }
 {
@@ -98,19 +98,19 @@ fn keep_journal<H: Shelf>(
 ) -> Decision
     ensures kept { KeptBehind
         (Refuses (H.files shelf.old) (H.takes shelf.old name.now (length (spelling journal.now))))
-        (Rose (H.faults shelf.old) (H.faults shelf.new)) name.now (spelling journal.now)
-        (shelved H.Shelf shelf.old shelf.new) decision result }
+        (Faulted (H.faults shelf.old) (H.faults shelf.new)) name.now (spelling journal.now)
+        (shelf_change H.Shelf shelf.old shelf.new) decision result }
     ensures good { IsJournal journal.now }
     ensures shelf { decision.status ≢ Status.ShelfFault
-        → Serves (shelved H.Shelf shelf.old shelf.new)
+        → Serves (shelf_change H.Shelf shelf.old shelf.new)
         (result.status ≢ Status.ShelfFault) }
 {
     match journal_bytes(alloc, journal) {
         Ok(bytes) => match shelf.keep(name, bytes.as_slice()) {
             Ok(()) => decision,
-            Err(_) => Decision::said(Status::ShelfFault),
+            Err(_) => Decision::of_status(Status::ShelfFault),
         },
-        Err(_) => Decision::said(Status::NoMemory),
+        Err(_) => Decision::of_status(Status::NoMemory),
     }
 }
 
@@ -126,15 +126,15 @@ fn run_begun<H: Shelf, S: Source, K: Sink, N: Sink>(
     ensures made { WhenMade result (λ decision journal. (force : Bool)
         → MayRun force (plan_in begun.old)
         → RunsOn options force (S.left devices.old.input) (plan_in begun.old) journal decision
-        (S.left devices.new.input) (sunk K.Sink devices.old.out devices.new.out)
-        (sunk N.Sink devices.old.notes devices.new.notes)) }
-    ensures calm { WhenMade result (λ decision journal.
+        (S.left devices.new.input) (sink_change K.Sink devices.old.out devices.new.out)
+        (sink_change N.Sink devices.old.notes devices.new.notes)) }
+    ensures faults_unchanged { WhenMade result (λ decision journal.
         S.faults devices.new.input ≡ S.faults devices.old.input) }
     ensures rest { WhenMade result (λ decision journal.
         LeavesEnd (drawn S.Source devices.old.input devices.new.input)) }
     ensures over { WhenOver result (λ r. (force : Bool) (name : List ℕ)
         → MayRun force (plan_in begun.old)
-        → Does H.Shelf S.Source K.Sink N.Sink (recordings.on options force name (plan_in begun.old)) r
+        → CommandEffect H.Shelf S.Source K.Sink N.Sink (recordings.on options force name (plan_in begun.old)) r
         devices.old devices.new) }
     ensures status { WhenOver result (λ r. IsOver (status_in r)) }
     ensures shelf { devices.new.shelf ≡ devices.old.shelf }
@@ -149,10 +149,10 @@ fn run_begun<H: Shelf, S: Source, K: Sink, N: Sink>(
         options.steps,
     ) {
         JournalEnd::Made(last, journal) => {
-            Recorded::Made(Decision::behind(last, begun.chooser.drawn()), journal)
+            Recorded::Made(Decision::after_run(last, begun.chooser.drawn()), journal)
         }
         JournalEnd::Failed(fault) => Recorded::Over(Decision::cut_short(fault)),
-        JournalEnd::Full => Recorded::Over(Ok(Decision::said(Status::JournalFull))),
-        JournalEnd::NoMemory => Recorded::Over(Ok(Decision::said(Status::NoMemory))),
+        JournalEnd::Full => Recorded::Over(Ok(Decision::of_status(Status::JournalFull))),
+        JournalEnd::NoMemory => Recorded::Over(Ok(Decision::of_status(Status::NoMemory))),
     }
 }

@@ -1,12 +1,12 @@
 //! `replay FILE JOURNAL`: whether a journal lists a run of an image.
 
 ghost use Rattle.std.specs.Prelude.{◌≡◌, ◌⊎◌, IfOk, IfErr, None};
-ghost use Rattle.alpha_io.specs.Shelved.{shelved};
+ghost use Rattle.alpha_io.specs.ShelfChange.{shelf_change};
 ghost use Rattle.alpha_replay.specs.JournalFault.{first_fault};
-ghost use Rattle.alpha_cmd.specs.Outcome.{goes, stops};
+ghost use Rattle.alpha_cmd.specs.Outcome.{continues, stops};
 ghost use Rattle.alpha_cmd.specs.Commands.Replay as replays;
 ghost use Rattle.alpha_cmd.specs.Commands.Replay.{SpellsJournal, JournalOf, Plays, RunOf};
-ghost use Rattle.alpha_cmd.specs.Does.{Does};
+ghost use Rattle.alpha_cmd.specs.CommandEffect.{CommandEffect};
 ghost use Rattle.alpha_cmd.specs.Stage.{Computes, Stage, stop_status, stop_line};
 
 use crate::Status;
@@ -30,7 +30,7 @@ pub(crate) fn replay<H: Shelf, S: Source, K: Sink, N: Sink>(
     journal: &str,
     devices: &mut Devices<H, S, K, N>,
 ) -> Result<Decision, Failed>
-    ensures { Does H.Shelf S.Source K.Sink N.Sink (replays.form file.now journal.now) result
+    ensures { CommandEffect H.Shelf S.Source K.Sink N.Sink (replays.form file.now journal.now) result
         devices.old devices.new }
 {
     match run_of(alloc, file, journal, &mut devices.shelf) {
@@ -47,7 +47,7 @@ fn run_of<H: Shelf>(
     shelf: &mut H,
 ) -> Result<Replayed, Stop>
     ensures { Stage (RunOf (H.files shelf.old) file.now journal.now) (λ replayed. replayed) result
-        (shelved H.Shelf shelf.old shelf.new) }
+        (shelf_change H.Shelf shelf.old shelf.new) }
 {
     let image = load(alloc, shelf, file)?;
     let journal = load_journal(alloc, shelf, journal)?;
@@ -57,7 +57,7 @@ fn run_of<H: Shelf>(
 // The journal of a file.
 fn load_journal<H: Shelf>(alloc: Global, shelf: &mut H, name: &str) -> Result<Journal, Stop>
     ensures { Stage (JournalOf (H.files shelf.old) name.now) (λ journal. journal) result
-        (shelved H.Shelf shelf.old shelf.new) }
+        (shelf_change H.Shelf shelf.old shelf.new) }
 {
     let bytes = read_file(alloc, shelf, name, JOURNAL_LIMIT)?;
     journal_of(alloc, bytes.as_slice())
@@ -65,15 +65,15 @@ fn load_journal<H: Shelf>(alloc: Global, shelf: &mut H, name: &str) -> Result<Jo
 
 // The journal that the bytes of a file spell.
 fn journal_of(alloc: Global, bytes: &[u8]) -> Result<Journal, Stop>
-    ensures ok { IfOk result (λ journal. SpellsJournal bytes.now (goes journal)) }
+    ensures ok { IfOk result (λ journal. SpellsJournal bytes.now (continues journal)) }
     ensures refused { IfErr result (λ stop.
         SpellsJournal bytes.now (stops (stop_status stop) (stop_line stop))
         ⊎ ((stop ≡ Stop.Said Status.NoMemory) × (first_fault bytes.now ≡ None))) }
 {
     match read_journal(alloc, bytes) {
         Ok(journal) => Ok(journal),
-        Err(JournalFault::NoMemory) => Err(Stop::Said(Status::NoMemory)),
-        Err(fault) => Err(Stop::Said(Status::BadJournal(fault))),
+        Err(JournalFault::NoMemory) => Err(Stop::OfStatus(Status::NoMemory)),
+        Err(fault) => Err(Stop::OfStatus(Status::BadJournal(fault))),
     }
 }
 
@@ -83,7 +83,7 @@ fn play(alloc: Global, image: Image, journal: &Journal) -> Result<Replayed, Stop
 {
     match alpha_replay::replay(alloc, image, journal) {
         Ok(replayed) => Ok(replayed),
-        Err(ReplayFault::NoMemory) => Err(Stop::Said(Status::NoMemory)),
-        Err(fault) => Err(Stop::Said(Status::NotARun(fault))),
+        Err(ReplayFault::NoMemory) => Err(Stop::OfStatus(Status::NoMemory)),
+        Err(fault) => Err(Stop::OfStatus(Status::NotARun(fault))),
     }
 }

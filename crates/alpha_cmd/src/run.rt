@@ -1,14 +1,14 @@
 //! `run FILE`: a run of the image's program.
 
 ghost use Rattle.std.specs.Prelude.{◌≡◌, ◌⊎◌, ℕ, List, [], IsTrue};
-ghost use Rattle.alpha_io.specs.Shelved.{shelved};
-ghost use Rattle.alpha_io.specs.Sunk.{sunk};
+ghost use Rattle.alpha_io.specs.ShelfChange.{shelf_change};
+ghost use Rattle.alpha_io.specs.SinkChange.{sink_change};
 ghost use Rattle.alpha_seq.specs.Devices.{drawn};
 ghost use Rattle.alpha_seq.specs.Machine.{program_of, state_of};
 ghost use Rattle.alpha_seq.specs.Start.{start};
 ghost use Rattle.alpha_cmd.specs.Checked.{ReadsImage};
 ghost use Rattle.alpha_cmd.specs.Commands.Run as runs;
-ghost use Rattle.alpha_cmd.specs.Does.{Does};
+ghost use Rattle.alpha_cmd.specs.CommandEffect.{CommandEffect};
 ghost use Rattle.alpha_cmd.specs.Ends.{status_in};
 ghost use Rattle.alpha_cmd.specs.Ran.{EndsWhere, FailsOnTheWay, IsRunEnd};
 ghost use Rattle.alpha_cmd.specs.RunsAsked.{DecidesRun, WhereEnded};
@@ -32,14 +32,16 @@ pub(crate) fn run<H: Shelf, S: Source, K: Sink, N: Sink>(
     file: &str,
     devices: &mut Devices<H, S, K, N>,
 ) -> Result<Decision, Failed>
-    ensures does { Does H.Shelf S.Source K.Sink N.Sink (runs.form options file.now) result devices.old devices.new }
+    ensures does { CommandEffect H.Shelf S.Source K.Sink N.Sink
+        (runs.form options file.now) result devices.old devices.new }
     ensures ran { WhereEnded result (λ decision.
-        ReadsImage (shelved H.Shelf devices.old.shelf devices.new.shelf) file.now
+        ReadsImage (shelf_change H.Shelf devices.old.shelf devices.new.shelf) file.now
         (λ image. DecidesRun options image decision
         (drawn S.Source devices.old.input devices.new.input)
-        (sunk K.Sink devices.old.out devices.new.out) (sunk N.Sink devices.old.notes devices.new.notes))) }
+        (sink_change K.Sink devices.old.out devices.new.out)
+        (sink_change N.Sink devices.old.notes devices.new.notes))) }
     ensures ends { EndsWhere (λ _. Unit {0}) file.now (status_in result)
-        (shelved H.Shelf devices.old.shelf devices.new.shelf) }
+        (shelf_change H.Shelf devices.old.shelf devices.new.shelf) }
 {
     match load(alloc, &mut devices.shelf, file) {
         Ok(image) => run_image(alloc, options, image, devices),
@@ -54,16 +56,16 @@ fn run_image<H: Shelf, S: Source, K: Sink, N: Sink>(
     image: Image,
     devices: &mut Devices<H, S, K, N>,
 ) -> Result<Decision, Failed>
-    ensures does { Does H.Shelf S.Source K.Sink N.Sink (runs.on options image) result devices.old devices.new }
+    ensures does { CommandEffect H.Shelf S.Source K.Sink N.Sink (runs.on options image) result devices.old devices.new }
     ensures ran { WhereEnded result (λ decision. DecidesRun options image decision
         (drawn S.Source devices.old.input devices.new.input)
-        (sunk K.Sink devices.old.out devices.new.out) (sunk N.Sink devices.old.notes devices.new.notes)) }
+        (sink_change K.Sink devices.old.out devices.new.out) (sink_change N.Sink devices.old.notes devices.new.notes)) }
     ensures ends { IsRunEnd (status_in result) ⊎ FailsOnTheWay (status_in result) }
     ensures shelf { devices.new.shelf ≡ devices.old.shelf }
 {
     match Machine::new(alloc, image, options.complete) {
         Ok(mut machine) => run_machine(&mut machine, options, devices),
-        Err(_) => Ok(Decision::said(Status::NoMemory)),
+        Err(_) => Ok(Decision::of_status(Status::NoMemory)),
     }
 }
 
@@ -73,14 +75,14 @@ fn run_machine<H: Shelf, S: Source, K: Sink, N: Sink>(
     options: RunOptions,
     devices: &mut Devices<H, S, K, N>,
 ) -> Result<Decision, Failed>
-    requires how { machine.old.how ≡ options.complete }
+    requires completion { machine.old.completion ≡ options.complete }
     requires start { state_of machine.old ≡ start (program_of machine.old) }
     requires mode { IsTrue machine.old.kernel.user }
-    ensures does { Does H.Shelf S.Source K.Sink N.Sink (runs.on options machine.old.image) result
+    ensures does { CommandEffect H.Shelf S.Source K.Sink N.Sink (runs.on options machine.old.image) result
         devices.old devices.new }
     ensures ran { WhereEnded result (λ decision. DecidesRun options machine.old.image decision
         (drawn S.Source devices.old.input devices.new.input)
-        (sunk K.Sink devices.old.out devices.new.out) (sunk N.Sink devices.old.notes devices.new.notes)) }
+        (sink_change K.Sink devices.old.out devices.new.out) (sink_change N.Sink devices.old.notes devices.new.notes)) }
     ensures ends { IsRunEnd (status_in result) ⊎ FailsOnTheWay (status_in result) }
     ensures shelf { devices.new.shelf ≡ devices.old.shelf }
 {
@@ -93,7 +95,7 @@ fn run_machine<H: Shelf, S: Source, K: Sink, N: Sink>(
         &mut left,
         options.watch,
     ) {
-        Ok(last) => Ok(Decision::behind(last, 0)),
+        Ok(last) => Ok(Decision::after_run(last, 0)),
         Err(fault) => Decision::cut_short(fault),
     }
 }

@@ -13,7 +13,7 @@ use alpha_verdict::line_of_broken;
 #[derive(Clone, Copy)]
 pub(crate) enum Stop {
     /// A status with its own line.
-    Said(Status),
+    OfStatus(Status),
     /// A broken place, of code with this base.
     Broken(Broken, u64),
     /// A trigger that is broken at its own place, of code with this base.
@@ -26,7 +26,7 @@ impl Stop {
         ensures { result ≡ stop_status self.now }
     {
         match *self {
-            Stop::Said(status) => status,
+            Stop::OfStatus(status) => status,
             Stop::Broken(broken, _) => Status::NotRestartable(broken),
             Stop::Unfixable(broken, _) => Status::Unfixable(broken),
         }
@@ -37,7 +37,7 @@ impl Stop {
         ensures { result ≡ stop_line self.now }
     {
         match self {
-            Stop::Said(status) => line_of(status),
+            Stop::OfStatus(status) => line_of(status),
             Stop::Broken(broken, code_base) => line_of_broken(broken, *code_base),
             Stop::Unfixable(broken, code_base) => unfixable_line(broken, *code_base),
         }

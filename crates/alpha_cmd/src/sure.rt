@@ -4,9 +4,9 @@ ghost use Rattle.alpha_io.specs.SureShelfState.{sure_file};
 ghost use Rattle.alpha_request.specs.Command.{Command};
 ghost use Rattle.alpha_seq.specs.Devices.{LeavesEnd};
 ghost use Rattle.alpha_cmd.specs.Answer.{Answer};
-ghost use Rattle.alpha_cmd.specs.Asks.{Asks};
+ghost use Rattle.alpha_cmd.specs.Asks.{AsksFor};
 ghost use Rattle.alpha_cmd.specs.Commands.{there_of, MayTake, Spares};
-ghost use Rattle.alpha_cmd.specs.Gave.{Gave};
+ghost use Rattle.alpha_cmd.specs.Answered.{Answered};
 ghost use Rattle.alpha_cmd.specs.Promises.{EndsWhole, LeavesScript};
 ghost use Rattle.alpha_cmd.specs.Sure.{sure_world, sure_call};
 ghost use Rattle.alpha_cmd.specs.Tried.{IsAnswer};
@@ -25,7 +25,7 @@ pub fn alpha_sure(
     devices: &mut Devices<SureShelf, SureSource, NullSink, NullSink>,
 ) -> Status
     ensures answer { (a : Answer) → IsAnswer words.now (sure_world devices.old.shelf devices.old.input) a
-        → Gave a result (sure_call devices.old devices.new) }
+        → Answered a result (sure_call devices.old devices.new) }
 
     // Where memory runs out, files and input are what `alpha_top` leaves of them, and so is a script.
     ensures whole { EndsWhole words.now result (sure_call devices.old devices.new) }
@@ -34,15 +34,15 @@ pub fn alpha_sure(
 
     // No stream fails, and the shelf answers only for a file that it doesn't have or doesn't take.
     ensures streams { (result ≢ Status.InputFault) × (result ≢ Status.SinkFault) }
-    ensures shelf { (command : Command) → Asks words.now command
+    ensures shelf { (command : Command) → AsksFor words.now command
         → there_of command (sure_world devices.old.shelf devices.old.input) → result ≢ Status.ShelfFault }
 
     // Files stay, but for the one that a command keeps, and so does input but for a run or a session.
     ensures files { KeepsFiles (Some (sure_file devices.old.shelf)) (Some (sure_file devices.new.shelf))
-        ⊎ ((command : Command) × Asks words.now command
+        ⊎ ((command : Command) × AsksFor words.now command
         × Spares command result (Some (sure_file devices.old.shelf)) (Some (sure_file devices.new.shelf))) }
     ensures input { (devices.new.input ≡ devices.old.input)
-        ⊎ ((command : Command) × Asks words.now command × MayTake command result) }
+        ⊎ ((command : Command) × AsksFor words.now command × MayTake command result) }
 {
     alpha_top(alloc, words, devices)
 }

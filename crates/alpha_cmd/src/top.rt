@@ -1,27 +1,28 @@
 ghost use Rattle.std.specs.Prelude.{◌≡◌, ◌≢◌, ◌<◌, ◌≤◌, ◌⊎◌, ℕ, List, IfOk};
-ghost use Rattle.alpha_io.specs.Faults.{Rose};
+ghost use Rattle.alpha_io.specs.Faults.{Faulted};
 ghost use Rattle.alpha_io.specs.Files.{KeepsFiles};
-ghost use Rattle.alpha_io.specs.Shelved.{shelved};
-ghost use Rattle.alpha_io.specs.Sunk.{sunk};
+ghost use Rattle.alpha_io.specs.ShelfChange.{shelf_change};
+ghost use Rattle.alpha_io.specs.SinkChange.{sink_change};
 ghost use Rattle.alpha_request.specs.Command as commands;
 ghost use Rattle.alpha_request.specs.Command.{Command};
 ghost use Rattle.alpha_request.specs.CommandOf.{command_of};
 ghost use Rattle.alpha_seq.specs.Devices.{LeavesEnd, drawn};
 ghost use Rattle.alpha_cmd.specs.Alike.{Alike};
 ghost use Rattle.alpha_cmd.specs.AnswerBy.{world};
-ghost use Rattle.alpha_cmd.specs.Asks.{Asks};
+ghost use Rattle.alpha_cmd.specs.Asks.{AsksFor};
 ghost use Rattle.alpha_cmd.specs.Call.{called};
 ghost use Rattle.alpha_cmd.specs.Checked.{Checked};
 ghost use Rattle.alpha_cmd.specs.Commands.{form_of, MayTake, Spares};
 ghost use Rattle.alpha_cmd.specs.OfImage.Debug.{LeavesTail, script_most};
 ghost use Rattle.alpha_cmd.specs.Commands.Link.{KeepsLinks};
-ghost use Rattle.alpha_cmd.specs.Makings.Module.{KeepsModules};
+ghost use Rattle.alpha_cmd.specs.SourceCommands.Module.{KeepsModules};
 ghost use Rattle.alpha_cmd.specs.Commands.Record.{KeepsUnder};
-ghost use Rattle.alpha_cmd.specs.Does.{Does};
-ghost use Rattle.alpha_cmd.specs.Ends.{Decides, status_in};
+ghost use Rattle.alpha_cmd.specs.CommandEffect.{CommandEffect};
+ghost use Rattle.alpha_cmd.specs.Ends.{OutcomeOrFault, status_in};
 ghost use Rattle.alpha_cmd.specs.Fixed.{Fixes};
 ghost use Rattle.alpha_cmd.specs.Kept.{Serves};
-ghost use Rattle.alpha_cmd.specs.Promises.{EndsWhole, EndsCut, GivesOne, GivesThe, ServesUnder, SparesFiles, TakesInput, DrawsUnder, LeavesScript, EndsAsked, LosesNone};
+ghost use Rattle.alpha_cmd.specs.Promises.{EndsWhole, EndsCut, GivesOne, GivesThe, ServesUnder, SparesFiles};
+ghost use Rattle.alpha_cmd.specs.Promises.{TakesInput, DrawsUnder, LeavesScript, EndsAsked, LosesNone};
 ghost use Rattle.alpha_cmd.specs.Ran.{Ran};
 ghost use Rattle.alpha_cmd.specs.RunsAsked.{DecidesAsked, EndsAsRun, RunsAsked, WhereEnded};
 ghost use Rattle.alpha_cmd.specs.ReadsNothing.{Unread, UnreadAlike};
@@ -30,19 +31,19 @@ ghost use Rattle.alpha_cmd.specs.Replied.{Replied, Replies};
 ghost use Rattle.alpha_cmd.specs.Restarts.{Restarts};
 ghost use Rattle.alpha_cmd.specs.Accepts.{Accepts};
 ghost use Rattle.alpha_cmd.specs.ToldRun.{RanTold};
-ghost use Rattle.alpha_cmd.specs.Tried.{TriedBy};
-ghost use Rattle.alpha_cmd.specs.Tries.{CountStays};
+ghost use Rattle.alpha_cmd.specs.Tried.{AttemptedBy};
+ghost use Rattle.alpha_cmd.specs.Attempts.{CountStays};
 
 use crate::Status;
 use crate::decision::Decision;
 use crate::devices::Devices;
 use crate::imprecise::{ImpreciseCall, imprecise};
 use crate::link::link;
-use crate::making::make;
 use crate::of_image::of_image;
 use crate::record::record;
 use crate::replay::replay;
 use crate::run::run;
+use crate::source_commands::make;
 use crate::trial::trial;
 use alpha_io::{Failed, Shelf, Sink, Source};
 use alpha_request::{Refusal, Request, Words, request_of};
@@ -82,7 +83,7 @@ pub fn alpha_top<H: Shelf, S: Source, K: Sink, N: Sink>(
 
     // The shelf fails only under its status, or under that of a sink. Told files stay, but for the
     // one that a command keeps.
-    ensures shelf { ServesUnder result (shelved H.Shelf devices.old.shelf devices.new.shelf) }
+    ensures shelf { ServesUnder result (shelf_change H.Shelf devices.old.shelf devices.new.shelf) }
     ensures files { SparesFiles words.now result (H.files devices.old.shelf) (H.files devices.new.shelf) }
 
     // Input is not touched, but by a run or a session that was begun, and it fails only under its
@@ -112,13 +113,13 @@ pub fn alpha_top<H: Shelf, S: Source, K: Sink, N: Sink>(
     // Where a command is done that judges an image or keeps what it makes of files, the shelf was asked for
     // these files alone, from their start to their end, and to keep just what is made of the bytes that it
     // gave, which it did. Whatever the shelf tells.
-    ensures replied { Replies words.now result (shelved H.Shelf devices.old.shelf devices.new.shelf) }
+    ensures replied { Replies words.now result (shelf_change H.Shelf devices.old.shelf devices.new.shelf) }
 
     // Where a check is done, the bytes that the shelf's calls gave of its file, from its start to its end
     // and nothing else, spell an image that can be restarted after each late trap, whatever the shelf tells.
     // So it is of the two plain words `check FILE`.
-    ensures restarts { Restarts words.now result (shelved H.Shelf devices.old.shelf devices.new.shelf) }
-    ensures checked { Checked words.now result (shelved H.Shelf devices.old.shelf devices.new.shelf) }
+    ensures restarts { Restarts words.now result (shelf_change H.Shelf devices.old.shelf devices.new.shelf) }
+    ensures checked { Checked words.now result (shelf_change H.Shelf devices.old.shelf devices.new.shelf) }
 
     // Where the shelf tells that the file spells an accepted image and no device fails, a check of it
     // is done, or memory ran out.
@@ -167,7 +168,8 @@ pub fn alpha_top<H: Shelf, S: Source, K: Sink, N: Sink>(
 
     // Under the status of a run's end a journal was kept, and it is a good one. Where the input is told,
     // it is that of the run that the words make, to its end or to all its units.
-    ensures recorded { KeepsUnder (Asks words.now) result (world H.Shelf S.Source devices.old.shelf devices.old.input)
+    ensures recorded { KeepsUnder (AsksFor words.now) result
+        (world H.Shelf S.Source devices.old.shelf devices.old.input)
         (H.files devices.new.shelf) }
 {
     match decide(alloc, words, devices) {
@@ -183,38 +185,38 @@ fn decide<H: Shelf, S: Source, K: Sink, N: Sink>(
     words: &Words,
     devices: &mut Devices<H, S, K, N>,
 ) -> Result<Decision, Failed>
-    ensures tried { Decides (TriedBy (Rose (H.faults devices.old.shelf) (H.faults devices.new.shelf))
-        (Rose (S.faults devices.old.input) (S.faults devices.new.input)) words.now
+    ensures tried { OutcomeOrFault (AttemptedBy (Faulted (H.faults devices.old.shelf) (H.faults devices.new.shelf))
+        (Faulted (S.faults devices.old.input) (S.faults devices.new.input)) words.now
         (world H.Shelf S.Source devices.old.shelf devices.old.input)) result (S.left devices.new.input)
-        (shelved H.Shelf devices.old.shelf devices.new.shelf)
-        (sunk K.Sink devices.old.out devices.new.out) (sunk N.Sink devices.old.notes devices.new.notes) }
-    ensures shelf { Serves (shelved H.Shelf devices.old.shelf devices.new.shelf)
+        (shelf_change H.Shelf devices.old.shelf devices.new.shelf)
+        (sink_change K.Sink devices.old.out devices.new.out) (sink_change N.Sink devices.old.notes devices.new.notes) }
+    ensures shelf { Serves (shelf_change H.Shelf devices.old.shelf devices.new.shelf)
         (IfOk result (λ decision. decision.status ≢ Status.ShelfFault)) }
     ensures files { KeepsFiles (H.files devices.old.shelf) (H.files devices.new.shelf)
-        ⊎ ((command : Command) × Asks words.now command
+        ⊎ ((command : Command) × AsksFor words.now command
         × Spares command (status_in result) (H.files devices.old.shelf) (H.files devices.new.shelf)) }
     ensures input { (devices.new.input ≡ devices.old.input)
-        ⊎ ((command : Command) × Asks words.now command × MayTake command (status_in result)) }
+        ⊎ ((command : Command) × AsksFor words.now command × MayTake command (status_in result)) }
     ensures source { CountStays (drawn S.Source devices.old.input devices.new.input)
         (IfOk result (λ decision. decision.status ≢ Status.InputFault)) }
     ensures rest { LeavesEnd (drawn S.Source devices.old.input devices.new.input) }
-    ensures script { (file : List ℕ) → Asks words.now (commands.debug file)
+    ensures script { (file : List ℕ) → AsksFor words.now (commands.debug file)
         → LeavesTail script_most (S.left devices.old.input) (S.left devices.new.input) }
     ensures replied { Replies words.now (status_in result)
-        (shelved H.Shelf devices.old.shelf devices.new.shelf) }
-    ensures ran { (command : Command) → Asks words.now command → WhereEnded result (λ decision.
-        DecidesAsked command decision (shelved H.Shelf devices.old.shelf devices.new.shelf)
+        (shelf_change H.Shelf devices.old.shelf devices.new.shelf) }
+    ensures ran { (command : Command) → AsksFor words.now command → WhereEnded result (λ decision.
+        DecidesAsked command decision (shelf_change H.Shelf devices.old.shelf devices.new.shelf)
         (drawn S.Source devices.old.input devices.new.input)
-        (sunk K.Sink devices.old.out devices.new.out) (sunk N.Sink devices.old.notes devices.new.notes)) }
-    ensures ends { (command : Command) → Asks words.now command
-        → EndsAsRun command (status_in result) (shelved H.Shelf devices.old.shelf devices.new.shelf) }
-    ensures recorded { KeepsUnder (Asks words.now) (status_in result)
+        (sink_change K.Sink devices.old.out devices.new.out) (sink_change N.Sink devices.old.notes devices.new.notes)) }
+    ensures ends { (command : Command) → AsksFor words.now command
+        → EndsAsRun command (status_in result) (shelf_change H.Shelf devices.old.shelf devices.new.shelf) }
+    ensures recorded { KeepsUnder (AsksFor words.now) (status_in result)
         (world H.Shelf S.Source devices.old.shelf devices.old.input) (H.files devices.new.shelf) }
 {
     match request_of(alloc, words) {
         Ok(request) => perform(alloc, request, devices),
-        Err(Refusal::BadWords) => Ok(Decision::said(Status::BadWords)),
-        Err(Refusal::NoMemory) => Ok(Decision::said(Status::NoMemory)),
+        Err(Refusal::BadWords) => Ok(Decision::of_status(Status::BadWords)),
+        Err(Refusal::NoMemory) => Ok(Decision::of_status(Status::NoMemory)),
     }
 }
 
@@ -226,24 +228,24 @@ fn perform<H: Shelf, S: Source, K: Sink, N: Sink>(
     devices: &mut Devices<H, S, K, N>,
 ) -> Result<Decision, Failed>
     requires blocks { (n : ℕ) → command_of request ≡ commands.trial n → (0 < n) × (n ≤ 20000) }
-    ensures does { Does H.Shelf S.Source K.Sink N.Sink (form_of (command_of request.entry)) result
+    ensures does { CommandEffect H.Shelf S.Source K.Sink N.Sink (form_of (command_of request.entry)) result
         devices.old devices.new }
     ensures script { (file : List ℕ) → command_of request.entry ≡ commands.debug file
         → LeavesTail script_most (S.left devices.old.input) (S.left devices.new.input) }
     ensures replied { status_in result ≡ Status.Done 0 → Replied (command_of request.entry)
-        (shelved H.Shelf devices.old.shelf devices.new.shelf) }
+        (shelf_change H.Shelf devices.old.shelf devices.new.shelf) }
     ensures ran { WhereEnded result (λ decision. DecidesAsked (command_of request.entry) decision
-        (shelved H.Shelf devices.old.shelf devices.new.shelf)
+        (shelf_change H.Shelf devices.old.shelf devices.new.shelf)
         (drawn S.Source devices.old.input devices.new.input)
-        (sunk K.Sink devices.old.out devices.new.out) (sunk N.Sink devices.old.notes devices.new.notes)) }
+        (sink_change K.Sink devices.old.out devices.new.out) (sink_change N.Sink devices.old.notes devices.new.notes)) }
     ensures ends { EndsAsRun (command_of request.entry) (status_in result)
-        (shelved H.Shelf devices.old.shelf devices.new.shelf) }
+        (shelf_change H.Shelf devices.old.shelf devices.new.shelf) }
     ensures recorded { KeepsUnder (λ command. command_of request.entry ≡ command) (status_in result)
         (world H.Shelf S.Source devices.old.shelf devices.old.input) (H.files devices.new.shelf) }
 {
     match request {
-        Request::OfImage { what, file } => of_image(alloc, what, file, devices),
-        Request::Make { what, file, out } => make(alloc, what, file, out, devices),
+        Request::OfImage { command, file } => of_image(alloc, command, file, devices),
+        Request::Make { command, file, out } => make(alloc, command, file, out, devices),
         Request::Link { entry, out, files } => link(alloc, entry, out, files.as_slice(), devices),
         Request::Replay { file, journal } => replay(alloc, file, journal, devices),
         Request::RunImprecise {

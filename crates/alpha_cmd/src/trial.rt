@@ -2,7 +2,7 @@
 
 ghost use Rattle.std.specs.Prelude.{◌<◌, ◌≤◌};
 ghost use Rattle.alpha_cmd.specs.Commands.Trial as trials;
-ghost use Rattle.alpha_cmd.specs.Does.{Does};
+ghost use Rattle.alpha_cmd.specs.CommandEffect.{CommandEffect};
 
 use crate::Status;
 use crate::decision::Decision;
@@ -20,11 +20,11 @@ pub(crate) fn trial<H: Shelf, S: Source, K: Sink, N: Sink>(
 ) -> Result<Decision, Failed>
     requires some { 0 < blocks }
     requires bound { blocks ≤ 20000 }
-    ensures { Does H.Shelf S.Source K.Sink N.Sink (trials.form blocks) result devices.old devices.new }
+    ensures { CommandEffect H.Shelf S.Source K.Sink N.Sink (trials.form blocks) result devices.old devices.new }
 {
     match alpha_trial::trial(alloc, blocks, &mut devices.out) {
-        Ok(()) => Ok(Decision::said(Status::Done(0))),
-        Err(TrialFault::NoMemory) => Ok(Decision::said(Status::NoMemory)),
+        Ok(()) => Ok(Decision::of_status(Status::Done(0))),
+        Err(TrialFault::NoMemory) => Ok(Decision::of_status(Status::NoMemory)),
         Err(TrialFault::Sink) => Err(Failed),
     }
 }

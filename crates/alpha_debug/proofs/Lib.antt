@@ -1,13 +1,13 @@
-mod Waiting
+mod BlockContents
 mod Words
-mod Printing
+mod RowTexts
 mod Sinks
-mod Watching
+mod WatchedSteps
 mod Steps
 mod Sessions
-mod Hearing
+mod ScriptLines
 mod Scripts
 mod Pieces
-mod Underway
-mod Opening
+mod ScriptUnderway
+mod SessionStart
 pub mod Transcripts

@@ -1,6 +1,7 @@
 -- What commands do to a session, one after another.
 use Rattle.std.specs.Prelude.{◌==◌}
-use Rattle.std.proofs.Common.{◌≡◌, ◌∙◌, ℕ, codes, length, Bool, true, false, cond, List, [], ◌∷◌, ◌++◌, Option, Some, None, refl, ap, append_assoc}
+use Rattle.std.proofs.Common.{◌≡◌, ◌∙◌, ℕ, codes, length, Bool, true, false, cond, List, [], ◌∷◌, ◌++◌, Option, Some}
+use Rattle.std.proofs.Common.{None, refl, ap, append_assoc}
 use Rattle.alpha_seq.specs.declared.end.End.{End}
 use Rattle.alpha_seq.specs.declared.machine.Machine.{Machine}
 use Rattle.alpha_seq.specs.State.{State}
@@ -12,46 +13,56 @@ use Rattle.alpha_image.specs.Parts.{Parts}
 use Rattle.alpha_shadow.specs.declared.broken.Broken.{Broken}
 use Rattle.alpha_seq.specs.Start.{start}
 use Rattle.alpha_debug.specs.declared.command.Command.{Command}
-use Rattle.alpha_debug.specs.declared.command.Command.TheVariants.{Nothing, Step, Go, Barrier, Break, Clear, Registers, Memory, Listing, Shadow, Log, Quit, Unknown}
+use Rattle.alpha_debug.specs.declared.command.Command.TheVariants.{Nothing, Step, Go, Barrier, Break, Clear, Registers}
+use Rattle.alpha_debug.specs.declared.command.Command.TheVariants.{Memory, Listing, Shadow, Log, Quit, Unknown}
 use Rattle.alpha_debug.specs.declared.watcher.Until.{Until}
 use Rattle.alpha_debug.specs.declared.watcher.Until.TheVariants as until
 use Rattle.alpha_debug.specs.declared.debugger.Debugger.{Debugger}
 use Rattle.alpha_debug.specs.Command.{most_steps}
 use Rattle.alpha_debug.specs.Lines.{ended, where_line}
-use Rattle.alpha_debug.specs.Session.{Setting, Session, IsVerdict, text_of, saying, walk, if_going, going, saying_where, travel, has_point, most_points, ok, is_shown, shown, answer}
-use Rattle.alpha_debug.specs.Gathered.{gathered_by, Gathers, Stops}
-use Rattle.alpha_debug.specs.Effects.{Grows, session_of, with_block, IsOpened, Makes, Fails}
-use Rattle.alpha_debug.proofs.Sinks.{Grows-same, Grows-by, Grows-trans, Breaks-after, Gathers-both}
-use Rattle.alpha_debug.proofs.Steps.{walk-grows}
+use Rattle.alpha_debug.specs.Session.{Setting, Session, IsVerdict, text_of, with_text, step_until, if_going}
+use Rattle.alpha_debug.specs.Session.{if_not_ended}
+use Rattle.alpha_debug.specs.Session.{with_where_line, continue_until, has_point, most_points, ok, is_shown, shown}
+use Rattle.alpha_debug.specs.Session.{answer}
+use Rattle.alpha_debug.specs.OutputChange.{output_change_by, AppendsOutput, SinkFailsWith}
+use Rattle.alpha_debug.specs.Effects.{Grows, session_of, with_block, IsOpened, SessionEffect, Fails}
+use Rattle.alpha_debug.proofs.Sinks.{Grows-same, Grows-by, Grows-trans, FailsBehind-after, AppendsOutput-both}
+use Rattle.alpha_debug.proofs.Steps.{step_until-grows}
 
 -- ---- what is said
 
 -- ---- what is written stays
 
-going-grows : (g : Setting) (wanted : Until) (most : ℕ) (s : Session) (end : Option End) → Grows (text_of s) (text_of (if_going end s (walk g.program wanted s.points most s.state s.text)))
-going-grows g wanted most s None = walk-grows g.program wanted s.points most s.state s.text
-going-grows g wanted most s (Some end) = Grows-same (text_of s)
+if_not_ended-grows : (g : Setting) (wanted : Until) (most : ℕ) (s : Session) (end : Option End)
+    → Grows (text_of s) (text_of (if_going end s (step_until g.program wanted s.points most s.state s.text)))
+if_not_ended-grows g wanted most s None = step_until-grows g.program wanted s.points most s.state s.text
+if_not_ended-grows g wanted most s (Some end) = Grows-same (text_of s)
 
-saying_where-grows : (s : Session) → Grows (text_of s) (text_of (saying_where s))
-saying_where-grows s = Grows-by (text_of s) (where_line s.end s.state.pc)
+with_where_line-grows : (s : Session) → Grows (text_of s) (text_of (with_where_line s))
+with_where_line-grows s = Grows-by (text_of s) (where_line s.end s.state.pc)
 
-travel-grows : (g : Setting) (wanted : Until) (most : ℕ) (s : Session) → Grows (text_of s) (text_of (travel g wanted most s))
-travel-grows g wanted most s =
-    let t : Session = going g wanted most s in
-    Grows-trans (text_of s) (text_of t) (text_of (saying_where t)) (going-grows g wanted most s s.end) (saying_where-grows t)
+continue_until-grows : (g : Setting) (wanted : Until) (most : ℕ) (s : Session)
+    → Grows (text_of s) (text_of (continue_until g wanted most s))
+continue_until-grows g wanted most s =
+    let t : Session = if_not_ended g wanted most s in
+    Grows-trans (text_of s) (text_of t) (text_of (with_where_line t)) (if_not_ended-grows g wanted most s s.end)
+    (with_where_line-grows t)
 
-adding-by : (b c : Bool) (s x y z : Session) → Grows (text_of s) (text_of x) → Grows (text_of s) (text_of y) → Grows (text_of s) (text_of z) → Grows (text_of s) (text_of (cond b x (cond c y z)))
+adding-by : (b c : Bool) (s x y z : Session) → Grows (text_of s) (text_of x) → Grows (text_of s) (text_of y)
+    → Grows (text_of s) (text_of z) → Grows (text_of s) (text_of (cond b x (cond c y z)))
 adding-by true c s x y z p q r = p
 adding-by false true s x y z p q r = q
 adding-by false false s x y z p q r = r
 
 pub answer-grows : (g : Setting) (command : Command) (s : Session) → Grows (text_of s) (text_of (answer g command s))
 answer-grows g Nothing s = Grows-same (text_of s)
-answer-grows g (Step n) s = travel-grows g until.Spent n s
-answer-grows g Go s = travel-grows g until.Breakpoint most_steps s
-answer-grows g Barrier s = travel-grows g until.Barrier most_steps s
+answer-grows g (Step n) s = continue_until-grows g until.Spent n s
+answer-grows g Go s = continue_until-grows g until.Breakpoint most_steps s
+answer-grows g Barrier s = continue_until-grows g until.Barrier most_steps s
 answer-grows g (Break at) s =
-    adding-by (has_point s.points at) (length s.points == most_points) s (saying s ok) (saying s (ended (codes "full"))) (saying (record s { points = s.points ++ at ∷ [] }) ok)
+    adding-by (has_point s.points at) (length s.points == most_points) s (with_text s ok)
+    (with_text s (ended (codes "full")))
+    (with_text (record s { points = s.points ++ at ∷ [] }) ok)
     (Grows-by (text_of s) ok) (Grows-by (text_of s) (ended (codes "full"))) (Grows-by (text_of s) ok)
 answer-grows g (Clear at) s = Grows-by (text_of s) _
 answer-grows g Quit s = Grows-same (text_of s)
@@ -60,26 +71,35 @@ answer-grows g command s = Grows-by (text_of s) _
 
 -- ---- steps, and the place
 
-module _ {K : Type 0} (written : K → Option (List ℕ)) (faults : K → ℕ) (o p q : K × List ℕ) (becomes : Session → Session) (old new : Debugger) where
-  pub where_said : Makes becomes old new (gathered_by written faults o p) → Gathers (gathered_by written faults p q) (where_line new.end new.machine.pc)
-      → Makes (λ s. saying_where (becomes s)) old (with_block new q.1) (gathered_by written faults o q)
-  where_said makes wrote = record {
+module _ {K : Type 0} (written : K → Option (List ℕ)) (faults : K → ℕ) (o p q : K × List ℕ)
+    (becomes : Session → Session) (old new : Debugger) where
+  pub where_line_put : SessionEffect becomes old new (output_change_by written faults o p)
+      → AppendsOutput (output_change_by written faults p q) (where_line new.end new.machine.pc)
+      → SessionEffect (λ s. with_where_line (becomes s)) old (with_block new q.1) (output_change_by written faults o q)
+  where_line_put makes wrote = record {
     bytes = makes.bytes ++ where_line new.end new.machine.pc;
-    wrote = Gathers-both written faults o p q makes.bytes (where_line new.end new.machine.pc) makes.wrote wrote;
+    wrote = AppendsOutput-both written faults o p q makes.bytes (where_line new.end new.machine.pc) makes.wrote wrote;
     is = λ text.
-        ap saying_where (makes.is text)
+        ap with_where_line (makes.is text)
         ∙ ap (λ (l : List ℕ). session_of new l) (append_assoc text makes.bytes (where_line new.end new.machine.pc));
   }
 
-  pub where_fails : Makes becomes old new (gathered_by written faults o p) → Stops (gathered_by written faults p q) (where_line new.end new.machine.pc)
-      → Fails (λ s. saying_where (becomes s)) old (gathered_by written faults o q)
+  pub where_fails : SessionEffect becomes old new (output_change_by written faults o p)
+      → SinkFailsWith (output_change_by written faults p q) (where_line new.end new.machine.pc)
+      → Fails (λ s. with_where_line (becomes s)) old (output_change_by written faults o q)
   where_fails makes stops text =
-      Breaks-after written faults o p q makes.bytes text (text_of (saying_where (becomes (session_of old text)))) makes.wrote
-      (record { bytes = where_line new.end new.machine.pc; is = ap (λ (s : Session). text_of (saying_where s)) (makes.is text); stops = stops })
+      FailsBehind-after written faults o p q makes.bytes text
+      (text_of (with_where_line (becomes (session_of old text)))) makes.wrote
+      (record {
+        bytes = where_line new.end new.machine.pc;
+        is = ap (λ (s : Session). text_of (with_where_line s)) (makes.is text);
+        stops = stops;
+      })
 
 -- ---- commands
 
-answer-shown : (g : Setting) (command : Command) (s : Session) → is_shown command ≡ true → answer g command s ≡ saying s (shown g command s.state)
+answer-shown : (g : Setting) (command : Command) (s : Session) → is_shown command ≡ true
+    → answer g command s ≡ with_text s (shown g command s.state)
 answer-shown g Nothing s e = absurd cc
 answer-shown g (Step n) s e = absurd cc
 answer-shown g Go s e = absurd cc
@@ -96,14 +116,23 @@ answer-shown g Unknown s e = refl
 
 -- ---- the start
 
-pub IsOpened-made : (image : Parts) (machine : Machine) (points : ArrayVec ℕ) (block : List ℕ) (verdict : Option Broken) → block ≡ [] → program_of machine ≡ record { image = image; how = Wrap }
-    → state_of machine ≡ start (program_of machine) → machine.kernel ≡ new_kernel → points.items ≡ [] → IsVerdict image.words verdict
-    → IsOpened image (record { machine = machine; verdict = verdict; watcher = record { until = until.Spent; points = points; block = block }; end = None })
+pub IsOpened-made : (image : Parts) (machine : Machine) (points : ArrayVec ℕ) (block : List ℕ) (verdict : Option Broken)
+    → block ≡ [] → program_of machine ≡ record { image = image; completion = Wrap }
+    → state_of machine ≡ start (program_of machine) → machine.kernel ≡ new_kernel → points.items ≡ []
+    → IsVerdict image.words verdict
+    → IsOpened image (record {
+      machine = machine;
+      verdict = verdict;
+      watcher = record { until = until.Spent; points = points; block = block };
+      end = None;
+    })
 IsOpened-made image machine points block verdict empty program starts kernel none verdict_is = record {
   block = empty;
   setting = record { program = program; verdict = verdict_is };
   start =
       ap (λ (st : State). record { state = st; text = []; points = points.items; end = None; over = false }) starts
-      ∙ ap (λ (l : List ℕ). record { state = start (program_of machine); text = []; points = l; end = None; over = false }) none;
+      ∙ ap
+      (λ (l : List ℕ). record { state = start (program_of machine); text = []; points = l; end = None; over = false })
+      none;
   mode = ap (λ (k : KernelState). k.user) kernel;
 }

@@ -1,21 +1,22 @@
--- What calls in a row did to one sink and the block before it. `written` is what the sink tells and `faults` its count; o, p
--- and q are the sink and the block at one moment after another.
-use Rattle.std.proofs.Common.{◌≡◌, ◌∙◌, ℕ, List, [], ◌++◌, Option, Result, Ok, Err, OnOk, OnErr, refl, sym, ap, subst, append_assoc, append-nil, arith}
-use Rattle.alpha_io.specs.Sunk.{Sunk, sunk_by, Puts, Partly}
+-- What calls in a row did to one sink and the block before it. `written` is what the sink tells and `faults` its count;
+-- o, p and q are the sink and the block at one moment after another.
+use Rattle.std.proofs.Common.{◌≡◌, ◌∙◌, ℕ, List, [], ◌++◌, Option, Result, Ok, Err, OnOk, OnErr, refl, sym, ap, subst}
+use Rattle.std.proofs.Common.{append_assoc, append-nil, arith}
+use Rattle.alpha_io.specs.SinkChange.{SinkChange, sink_change_by, Puts, WritesPartly}
 use Rattle.alpha_io.specs.declared.sink.Sink.{Ghosts}
-use Rattle.alpha_io.proofs.Counts.{Rose-earlier}
-use Rattle.alpha_io.proofs.Sinks.{Puts-none, Puts-then, Partly-then, Partly-more}
-use Rattle.alpha_debug.specs.Gathered.{Gathered, gathered, gathered_by, Gathers, Stops}
-use Rattle.alpha_debug.specs.Effects.{Grows, Breaks}
+use Rattle.alpha_io.proofs.Counts.{Faulted-earlier}
+use Rattle.alpha_io.proofs.Sinks.{Puts-none, Puts-then, WritesPartly-then, WritesPartly-more}
+use Rattle.alpha_debug.specs.OutputChange.{OutputChange, output_change, output_change_by, AppendsOutput, SinkFailsWith}
+use Rattle.alpha_debug.specs.Effects.{Grows, FailsBehind}
 
 -- a sink before which nothing waited, and nothing waits
-abbrev pub unblocked : Sunk → Gathered
-unblocked s = record { sink = s; old = []; new = [] }
+abbrev pub output_without_block : SinkChange → OutputChange
+output_without_block s = record { sink = s; old = []; new = [] }
 
 -- what holds anyhow holds where a call failed
-pub OnErr-any : {T E P : Type 0} (result : Result T E) → P → OnErr result P
-OnErr-any (Ok x) p = tt
-OnErr-any (Err e) p = p
+pub session_OnErr-any : {T E P : Type 0} (result : Result T E) → P → OnErr result P
+session_OnErr-any (Ok x) p = tt
+session_OnErr-any (Err e) p = p
 
 -- a fact that follows, where a call succeeded and where it failed
 pub OnOk-map : {T E P Q : Type 0} (result : Result T E) → (P → Q) → OnOk result P → OnOk result Q
@@ -43,34 +44,40 @@ Grows-trans a b c first second = record {
 }
 
 -- more bytes were to come
-pub Stops-more : (s : Gathered) (xs ys : List ℕ) → Stops s xs → Stops s (xs ++ ys)
-Stops-more s xs ys stops =
+pub SinkFailsWith-more : (s : OutputChange) (xs ys : List ℕ) → SinkFailsWith s xs → SinkFailsWith s (xs ++ ys)
+SinkFailsWith-more s xs ys stops =
     let longer : (s.old ++ xs) ++ ys ≡ s.old ++ (xs ++ ys) = append_assoc s.old xs ys in
     record {
-      part = subst (Partly s.sink) longer (Partly-more s.sink (s.old ++ xs) ys stops.part);
+      part = subst (WritesPartly s.sink) longer (WritesPartly-more s.sink (s.old ++ xs) ys stops.part);
       failed = stops.failed;
     }
 
-pub Breaks-more : (s : Gathered) (front text whole : List ℕ) → Breaks s front text → Grows text whole → Breaks s front whole
-Breaks-more s front text whole breaks more = record {
+pub FailsBehind-more : (s : OutputChange) (front text whole : List ℕ) → FailsBehind s front text → Grows text whole
+    → FailsBehind s front whole
+FailsBehind-more s front text whole breaks more = record {
   bytes = breaks.bytes ++ more.bytes;
   is = more.is ∙ (ap (λ (l : List ℕ). l ++ more.bytes) breaks.is ∙ append_assoc front breaks.bytes more.bytes);
-  stops = Stops-more s breaks.bytes more.bytes breaks.stops;
+  stops = SinkFailsWith-more s breaks.bytes more.bytes breaks.stops;
 }
 
 -- no call
-pub Gathers-none : {K : Type 0} (g : Ghosts K) (o : K) (waits : List ℕ) → Gathers (gathered g o waits o waits) []
-Gathers-none g o waits = record { put = []; puts = Puts-none (g.written o) (g.faults o); whole = append-nil waits }
+pub AppendsOutput-none : {K : Type 0} (g : Ghosts K) (o : K) (waits : List ℕ)
+    → AppendsOutput (output_change g o waits o waits) []
+AppendsOutput-none g o waits =
+    record { put = []; puts = Puts-none (g.written o) (g.faults o); whole = append-nil waits }
 
 -- where nothing waited and nothing waits, all was put
-pub Puts-gathered : (s : Gathered) (bytes : List ℕ) → s.old ≡ [] → s.new ≡ [] → Gathers s bytes → Puts s.sink bytes
-Puts-gathered s bytes none empty gathers =
+pub Puts-output_change : (s : OutputChange) (bytes : List ℕ) → s.old ≡ [] → s.new ≡ [] → AppendsOutput s bytes
+    → Puts s.sink bytes
+Puts-output_change s bytes none empty gathers =
     let all : bytes ≡ gathers.put =
-    ap (λ (l : List ℕ). l ++ bytes) (sym none) ∙ (gathers.whole ∙ (ap (λ (l : List ℕ). gathers.put ++ l) empty ∙ append-nil gathers.put)) in
+    ap (λ (l : List ℕ). l ++ bytes) (sym none)
+    ∙ (gathers.whole ∙ (ap (λ (l : List ℕ). gathers.put ++ l) empty ∙ append-nil gathers.put)) in
     subst (Puts s.sink) (sym all) gathers.puts
 
 -- what is gathered behind what was put
-pub both-whole : (a b c put next xs ys : List ℕ) → a ++ xs ≡ put ++ b → b ++ ys ≡ next ++ c → a ++ (xs ++ ys) ≡ (put ++ next) ++ c
+pub both-whole : (a b c put next xs ys : List ℕ) → a ++ xs ≡ put ++ b → b ++ ys ≡ next ++ c
+    → a ++ (xs ++ ys) ≡ (put ++ next) ++ c
 both-whole a b c put next xs ys first second =
     sym (append_assoc a xs ys)
     ∙ (ap (λ (l : List ℕ). l ++ ys) first
@@ -84,24 +91,36 @@ stops-whole a b put xs ys first =
 
 module _ {K : Type 0} (written : K → Option (List ℕ)) (faults : K → ℕ) (o p q : K × List ℕ) (xs : List ℕ) where
   -- first these bytes, then those
-  pub Gathers-both : (ys : List ℕ) → Gathers (gathered_by written faults o p) xs → Gathers (gathered_by written faults p q) ys → Gathers (gathered_by written faults o q) (xs ++ ys)
-  Gathers-both ys first second = record {
+  pub AppendsOutput-both : (ys : List ℕ) → AppendsOutput (output_change_by written faults o p) xs
+      → AppendsOutput (output_change_by written faults p q) ys
+      → AppendsOutput (output_change_by written faults o q) (xs ++ ys)
+  AppendsOutput-both ys first second = record {
     put = first.put ++ second.put;
-    puts = Puts-then (written o.0) (written p.0) (written q.0) (faults o.0) (faults p.0) (faults q.0) first.put second.put first.puts second.puts;
+    puts =
+        Puts-then (written o.0) (written p.0) (written q.0) (faults o.0) (faults p.0)
+        (faults q.0) first.put second.put first.puts second.puts;
     whole = both-whole o.1 p.1 q.1 first.put second.put xs ys first.whole second.whole;
   }
 
   -- first these bytes, then the sink failed
-  pub Stops-after : (ys : List ℕ) → Gathers (gathered_by written faults o p) xs → Stops (gathered_by written faults p q) ys → Stops (gathered_by written faults o q) (xs ++ ys)
-  Stops-after ys first second = record {
-    part = subst (Partly (sunk_by written faults o.0 q.0)) (stops-whole o.1 p.1 first.put xs ys first.whole)
-        (Partly-then (written o.0) (written p.0) (written q.0) (faults o.0) (faults p.0) (faults q.0) first.put (p.1 ++ ys) first.puts second.part);
-    failed = Rose-earlier (faults o.0) (faults p.0) (faults q.0) (let same = first.puts.same in omega arith) second.failed;
+  pub SinkFailsWith-after : (ys : List ℕ) → AppendsOutput (output_change_by written faults o p) xs
+      → SinkFailsWith (output_change_by written faults p q) ys
+      → SinkFailsWith (output_change_by written faults o q) (xs ++ ys)
+  SinkFailsWith-after ys first second = record {
+    part =
+        subst (WritesPartly (sink_change_by written faults o.0 q.0)) (stops-whole o.1 p.1 first.put xs ys first.whole)
+        (WritesPartly-then (written o.0) (written p.0) (written q.0) (faults o.0) (faults p.0) (faults q.0) first.put
+        (p.1 ++ ys) first.puts second.part);
+    failed =
+        Faulted-earlier (faults o.0) (faults p.0) (faults q.0)
+        (let same = first.puts.same in omega arith) second.failed;
   }
 
-  pub Breaks-after : (front text : List ℕ) → Gathers (gathered_by written faults o p) xs → Breaks (gathered_by written faults p q) (front ++ xs) text → Breaks (gathered_by written faults o q) front text
-  Breaks-after front text first second = record {
+  pub FailsBehind-after : (front text : List ℕ) → AppendsOutput (output_change_by written faults o p) xs
+      → FailsBehind (output_change_by written faults p q) (front ++ xs) text
+      → FailsBehind (output_change_by written faults o q) front text
+  FailsBehind-after front text first second = record {
     bytes = xs ++ second.bytes;
     is = second.is ∙ append_assoc front xs second.bytes;
-    stops = Stops-after second.bytes first second.stops;
+    stops = SinkFailsWith-after second.bytes first second.stops;
   }

@@ -1,5 +1,6 @@
 -- What a line of a script says: its words, the numbers among them, and the command that they make.
-use Rattle.std.specs.Prelude.{ℕ, Bool, true, false, ◌==◌, ◌&&◌, ◌^◌, nat_le, nat_lt, if◌then◌else◌, List, [], ◌∷◌, length, codes, Option, Some, None}
+use Rattle.std.specs.Prelude.{ℕ, Bool, true, false, ◌==◌, ◌&&◌, ◌^◌, nat_le, nat_lt, if◌then◌else◌, List, [], ◌∷◌}
+use Rattle.std.specs.Prelude.{length, codes, Option, Some, None}
 use Rattle.std.specs.List.{filter, slice_split}
 use Rattle.std.specs.Str.{bytes_eq}
 use Rattle.alpha_token.specs.declared.token.TokenKind.{TokenKind}
@@ -8,7 +9,8 @@ use Rattle.alpha_token.specs.Bytes.{is_blank}
 use Rattle.alpha_token.specs.Numeral.{number_value}
 use Rattle.alpha_token.specs.Tokens.{Tokens, End, Bad, Next, tokens}
 use Rattle.alpha_debug.specs.declared.command.Command.{Command}
-use Rattle.alpha_debug.specs.declared.command.Command.TheVariants.{Nothing, Step, Go, Barrier, Break, Clear, Registers, Memory, Listing, Shadow, Log, Quit, Unknown}
+use Rattle.alpha_debug.specs.declared.command.Command.TheVariants.{Nothing, Step, Go, Barrier, Break, Clear, Registers}
+use Rattle.alpha_debug.specs.declared.command.Command.TheVariants.{Memory, Listing, Shadow, Log, Quit, Unknown}
 
 -- ---- words
 
@@ -85,7 +87,8 @@ with_number name n =
 abbrev pub with_range : List ℕ → ℕ → ℕ → Command
 with_range name at count =
     if is_within most_shown count then
-    (if bytes_eq name (codes "mem") then Memory at count else if bytes_eq name (codes "dis") then Listing at count else Unknown)
+    (if bytes_eq name (codes "mem") then Memory at count else if bytes_eq name (codes "dis") then Listing at count
+    else Unknown)
     else Unknown
 
 abbrev pub by_number : List ℕ → Option ℕ → Command

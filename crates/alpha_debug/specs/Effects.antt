@@ -1,9 +1,11 @@
--- What the code of a session did against its definition, where the sink may tell nothing. What was written may still wait in a block.
-use Rattle.std.specs.Prelude.{◌≡◌, ℕ, ◌+◌, ◌-◌, ◌≤◌, ◌==◌, Bool, true, false, IsTrue, List, [], ◌++◌, length, All, take, Option}
+-- What the code of a session did against its definition, where the sink may tell nothing. What was written may still
+-- wait in a block.
+use Rattle.std.specs.Prelude.{◌≡◌, ℕ, ◌+◌, ◌-◌, ◌≤◌, ◌==◌, Bool, true, false, IsTrue, List, [], ◌++◌, length, All, take}
+use Rattle.std.specs.Prelude.{Option}
 use Rattle.std.specs.Io.KnownBytes.{Consumes}
 use Rattle.alpha_io.specs.History.{HasGiven}
 use Rattle.alpha_io.specs.Supply.{Supply}
-use Rattle.alpha_io.specs.Faults.{Rose}
+use Rattle.alpha_io.specs.Faults.{Faulted}
 use Rattle.alpha_pal.specs.CallEffect.{Takes}
 use Rattle.alpha_image.specs.Parts.{Parts}
 use Rattle.alpha_seq.specs.Devices.{Drawn}
@@ -13,13 +15,13 @@ use Rattle.alpha_seq.specs.Machine.{program_of, state_of}
 use Rattle.alpha_debug.specs.declared.watcher.Until.{Until}
 use Rattle.alpha_debug.specs.declared.debugger.Debugger.{Debugger}
 use Rattle.alpha_debug.specs.declared.command.Command.{Command}
-use Rattle.alpha_debug.specs.declared.debugger.Talk.{Talk}
-use Rattle.alpha_debug.specs.declared.debugger.Talk.TheVariants.{GoesOn, Quits}
+use Rattle.alpha_debug.specs.declared.debugger.SessionState.{SessionState}
+use Rattle.alpha_debug.specs.declared.debugger.SessionState.TheVariants.{Continues, Quits}
 use Rattle.alpha_debug.specs.declared.end.DebugEnd.{DebugEnd}
 use Rattle.alpha_debug.specs.declared.end.DebugEnd.TheVariants.{Done, InputFault, SinkFault, TooLarge, NoMemory}
 use Rattle.alpha_io.specs.declared.sink.Sink.{Ghosts}
-use Rattle.alpha_debug.specs.Gathered.{Gathered, gathered, Gathers, Stops}
-use Rattle.alpha_debug.specs.Session.{Setting, Session, IsSetting, opened, text_of, walk, answer}
+use Rattle.alpha_debug.specs.OutputChange.{OutputChange, output_change, AppendsOutput, SinkFailsWith}
+use Rattle.alpha_debug.specs.Session.{Setting, Session, IsSetting, opened, text_of, step_until, answer}
 use Rattle.alpha_debug.specs.Script.{Transcript, transcript_from, script_limit}
 
 -- ---- writing
@@ -30,37 +32,39 @@ pub record Grows (front text : List ℕ) : Type 0 where
   pub is : text ≡ front ++ bytes
 
 -- the sink failed, with a prefix written of what a text has behind its front
-pub record Breaks (s : Gathered) (front text : List ℕ) : Type 0 where
+pub record FailsBehind (s : OutputChange) (front text : List ℕ) : Type 0 where
   pub bytes : List ℕ
   pub is : text ≡ front ++ bytes
-  pub stops : Stops s bytes
+  pub stops : SinkFailsWith s bytes
 
 -- ---- a machine with no input
 
 -- the steps of the definition
-pub record Walks (wanted : Until) (points : List ℕ) (most : ℕ) (end : Option End) (old new : Machine) (out : Gathered) : Type 0 where
+pub record StepsUntil (wanted : Until) (points : List ℕ) (most : ℕ) (end : Option End) (old new : Machine)
+    (out : OutputChange) : Type 0 where
   pub bytes : List ℕ
-  pub wrote : Gathers out bytes
+  pub wrote : AppendsOutput out bytes
   pub is : (text : List ℕ)
-      → walk (program_of old) wanted points most (state_of old) text
+      → step_until (program_of old) wanted points most (state_of old) text
       ≡ record { state = state_of new; text = text ++ bytes; end = end }
 
-abbrev pub WalkBreaks : Until → List ℕ → ℕ → Machine → Gathered → Type 0
-WalkBreaks wanted points most old out = (text : List ℕ)
-    → Breaks out text (walk (program_of old) wanted points most (state_of old) text).text
+abbrev pub StepUntilFails : Until → List ℕ → ℕ → Machine → OutputChange → Type 0
+StepUntilFails wanted points most old out = (text : List ℕ)
+    → FailsBehind out text (step_until (program_of old) wanted points most (state_of old) text).text
 
 -- ---- a session
 
 -- how a session stands that has written a text
 abbrev pub session_of : Debugger → List ℕ → Session
-session_of d text = record { state = state_of d.machine; text = text; points = d.watcher.points.items; end = d.end; over = false }
+session_of d text =
+    record { state = state_of d.machine; text = text; points = d.watcher.points.items; end = d.end; over = false }
 
 abbrev pub setting_of : Debugger → Setting
 setting_of d = record { program = program_of d.machine; verdict = d.verdict }
 
 -- what was put of what a session says, and what waits in its block
-abbrev pub spoken : {K : Type 0} → Ghosts K → K → Debugger → K → Debugger → Gathered
-spoken g o old p new = gathered g o old.watcher.block p new.watcher.block
+abbrev pub session_output : {K : Type 0} → Ghosts K → K → Debugger → K → Debugger → OutputChange
+session_output g o old p new = output_change g o old.watcher.block p new.watcher.block
 
 -- the same session but for what waits
 abbrev pub with_block : Debugger → List ℕ → Debugger
@@ -72,14 +76,14 @@ pub record Remains (old new : Debugger) : Type 0 where
   pub mode : new.machine.kernel.user ≡ old.machine.kernel.user
 
 -- it did what the definition says, and wrote what that says
-pub record Makes (becomes : Session → Session) (old new : Debugger) (out : Gathered) : Type 0 where
+pub record SessionEffect (becomes : Session → Session) (old new : Debugger) (out : OutputChange) : Type 0 where
   pub bytes : List ℕ
-  pub wrote : Gathers out bytes
+  pub wrote : AppendsOutput out bytes
   pub is : (text : List ℕ) → becomes (session_of old text) ≡ session_of new (text ++ bytes)
 
 -- the sink failed, with a prefix written of what the definition says
-abbrev pub Fails : (Session → Session) → Debugger → Gathered → Type 0
-Fails becomes old out = (text : List ℕ) → Breaks out text (text_of (becomes (session_of old text)))
+abbrev pub Fails : (Session → Session) → Debugger → OutputChange → Type 0
+Fails becomes old out = (text : List ℕ) → FailsBehind out text (text_of (becomes (session_of old text)))
 
 -- a session whose program stands at its start, and which has nothing to put
 pub record IsOpened (image : Parts) (d : Debugger) : Type 0 where
@@ -90,27 +94,27 @@ pub record IsOpened (image : Parts) (d : Debugger) : Type 0 where
 
 -- ---- commands
 
-abbrev pub has_quit : Talk → Bool
-has_quit GoesOn = false
+abbrev pub has_quit : SessionState → Bool
+has_quit Continues = false
 has_quit Quits = true
 
 -- how a session stands behind a command
-abbrev pub left_by : Talk → Debugger → List ℕ → Session
+abbrev pub left_by : SessionState → Debugger → List ℕ → Session
 left_by talk d text = record (session_of d text) { over = has_quit talk }
 
 -- it answered a command as the definition does
-pub record Answers (command : Command) (talk : Talk) (old new : Debugger) (out : Gathered) : Type 0 where
+pub record Answers (command : Command) (talk : SessionState) (old new : Debugger) (out : OutputChange) : Type 0 where
   pub bytes : List ℕ
-  pub wrote : Gathers out bytes
+  pub wrote : AppendsOutput out bytes
   pub is : (text : List ℕ) → answer (setting_of old) command (session_of old text) ≡ left_by talk new (text ++ bytes)
 
-abbrev pub AnswerFails : Command → Debugger → Gathered → Type 0
+abbrev pub AnswerFails : Command → Debugger → OutputChange → Type 0
 AnswerFails command old out = Fails (answer (setting_of old) command) old out
 
 -- ---- a script
 
 -- the line in hand, of which so many bytes are held at most
-pub record IsHeld (begun held : List ℕ) : Type 0 where
+pub record IsPendingLine (begun held : List ℕ) : Type 0 where
   pub front : held ≡ take 1026 begun
   pub line : All (λ b. (b == 10) ≡ false) begun
 
@@ -119,34 +123,36 @@ abbrev pub told_from : Debugger → List ℕ → ℕ → List ℕ → List ℕ �
 told_from d text most begun script = transcript_from (setting_of d) (session_of d text) most begun script
 
 -- what comes of the rest of a script, by whether `quit` came
-abbrev pub told_after : Talk → Debugger → List ℕ → ℕ → List ℕ → List ℕ → Transcript
-told_after GoesOn d text most begun rest = told_from d text most begun rest
+abbrev pub told_after : SessionState → Debugger → List ℕ → ℕ → List ℕ → List ℕ → Transcript
+told_after Continues d text most begun rest = told_from d text most begun rest
 told_after Quits d text most begun rest = record { text = text; end = Done }
 
 -- it answered the lines that end within some bytes of a script, behind a line begun
-pub record Hears (bytes begun : List ℕ) (talk : Talk) (old new : Debugger) (held : List ℕ) (out : Gathered) : Type 0 where
+pub record FeedsBytes (bytes begun : List ℕ) (talk : SessionState) (old new : Debugger) (held : List ℕ)
+    (out : OutputChange) : Type 0 where
   pub put : List ℕ
   pub line : List ℕ
-  pub wrote : Gathers out put
-  pub held_is : IsHeld line held
+  pub wrote : AppendsOutput out put
+  pub pending_is : IsPendingLine line held
   pub is : (text : List ℕ) (most : ℕ) (rest : List ℕ) → length bytes ≤ most
-      → told_from old text most begun (bytes ++ rest) ≡ told_after talk new (text ++ put) (most - length bytes) line rest
+      → told_from old text most begun (bytes ++ rest)
+      ≡ told_after talk new (text ++ put) (most - length bytes) line rest
 
-abbrev pub HearFails : List ℕ → List ℕ → Debugger → Gathered → Type 0
-HearFails bytes begun old out = (text : List ℕ) (most : ℕ) (rest : List ℕ) → length bytes ≤ most
-    → Breaks out text (told_from old text most begun (bytes ++ rest)).text
+abbrev pub FeedFails : List ℕ → List ℕ → Debugger → OutputChange → Type 0
+FeedFails bytes begun old out = (text : List ℕ) (most : ℕ) (rest : List ℕ) → length bytes ≤ most
+    → FailsBehind out text (told_from old text most begun (bytes ++ rest)).text
 
 -- the last line of a script was answered, which no line feed ends
-pub record Closes (begun : List ℕ) (d : Debugger) (out : Gathered) : Type 0 where
+pub record Closes (begun : List ℕ) (d : Debugger) (out : OutputChange) : Type 0 where
   pub put : List ℕ
-  pub wrote : Gathers out put
+  pub wrote : AppendsOutput out put
   pub is : (text : List ℕ) (most : ℕ) → told_from d text most begun [] ≡ record { text = text ++ put; end = Done }
 
-abbrev pub CloseFails : List ℕ → Debugger → Gathered → Type 0
-CloseFails begun d out = (text : List ℕ) (most : ℕ) → Breaks out text (told_from d text most begun []).text
+abbrev pub CloseFails : List ℕ → Debugger → OutputChange → Type 0
+CloseFails begun d out = (text : List ℕ) (most : ℕ) → FailsBehind out text (told_from d text most begun []).text
 
 -- what the end of a script did, by its answer
-abbrev pub CloseEffect : DebugEnd → List ℕ → Debugger → Gathered → Type 0
+abbrev pub CloseEffect : DebugEnd → List ℕ → Debugger → OutputChange → Type 0
 CloseEffect Done begun d out = Closes begun d out
 CloseEffect SinkFault begun d out = CloseFails begun d out
 CloseEffect end begun d out = ⊥
@@ -165,39 +171,39 @@ pub record Reads (script : Drawn) (taken rest : List ℕ) : Type 0 where
   pub most : length taken ≤ script_limit + 1
 
 -- a session to its end
-pub record Tells (d : Debugger) (end : DebugEnd) (script : Drawn) (out : Gathered) : Type 0 where
+pub record Tells (d : Debugger) (end : DebugEnd) (script : Drawn) (out : OutputChange) : Type 0 where
   pub taken : List ℕ
   pub rest : List ℕ
   pub put : List ℕ
   pub reads : Reads script taken rest
   pub same : script.now ≡ script.before
-  pub wrote : Gathers out put
+  pub wrote : AppendsOutput out put
   pub is : (text : List ℕ) → told_from d text script_limit [] (taken ++ rest) ≡ record { text = text ++ put; end = end }
   pub alone : (text : List ℕ) → told_from d text script_limit [] taken ≡ record { text = text ++ put; end = end }
 
 -- a session whose script failed: it has written a prefix of the transcript
-pub record ReadingFails (d : Debugger) (script : Drawn) (out : Gathered) : Type 0 where
+pub record ReadingFails (d : Debugger) (script : Drawn) (out : OutputChange) : Type 0 where
   pub taken : List ℕ
   pub rest : List ℕ
   pub put : List ℕ
   pub reads : Reads script taken rest
   pub later : script.before ≤ script.now
-  pub cause : Rose script.before script.now
-  pub wrote : Gathers out put
+  pub cause : Faulted script.before script.now
+  pub wrote : AppendsOutput out put
   pub more : (text : List ℕ) → Grows (text ++ put) (told_from d text script_limit [] (taken ++ rest)).text
 
 -- a session whose sink failed
-pub record TellingFails (d : Debugger) (script : Drawn) (out : Gathered) : Type 0 where
+pub record SessionSinkFails (d : Debugger) (script : Drawn) (out : OutputChange) : Type 0 where
   pub taken : List ℕ
   pub rest : List ℕ
   pub reads : Reads script taken rest
   pub same : script.now ≡ script.before
-  pub breaks : (text : List ℕ) → Breaks out text (told_from d text script_limit [] (taken ++ rest)).text
+  pub breaks : (text : List ℕ) → FailsBehind out text (told_from d text script_limit [] (taken ++ rest)).text
 
 -- what a session did that was made, by its answer
-abbrev pub TellEffect : DebugEnd → Debugger → Drawn → Gathered → Type 0
+abbrev pub TellEffect : DebugEnd → Debugger → Drawn → OutputChange → Type 0
 TellEffect Done d script out = Tells d Done script out
 TellEffect TooLarge d script out = Tells d TooLarge script out
 TellEffect InputFault d script out = ReadingFails d script out
-TellEffect SinkFault d script out = TellingFails d script out
+TellEffect SinkFault d script out = SessionSinkFails d script out
 TellEffect NoMemory d script out = ⊥

@@ -1,5 +1,5 @@
 pub mod Command
-pub mod Gathered
+pub mod OutputChange
 pub mod Lines
 pub mod Session
 pub mod Script

@@ -28,8 +28,8 @@ all_lines bytes = lines_of_parts (parts bytes)
 abbrev pub script_limit : ℕ
 script_limit = 1048576
 
--- The lines that count, of what stands behind a line begun of which so many more bytes count: all lines, or, where there
--- are further bytes, those that end before them.
+-- The lines that count, of what stands behind a line begun of which so many more bytes count: all lines, or, where
+-- there are further bytes, those that end before them.
 abbrev pub lines_within : ℕ → List ℕ → List ℕ → List (List ℕ)
 lines_within most begun script =
     if nat_le (length script) most then all_lines (begun ++ script) else ended_parts (parts (begun ++ take most script))

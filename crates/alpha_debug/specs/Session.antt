@@ -1,5 +1,6 @@
 -- A debugger's session: how it stands, and what it answers to a command.
-use Rattle.std.specs.Prelude.{◌≡◌, ℕ, zero, suc, Bool, true, false, ◌==◌, ◌||◌, not, if◌then◌else◌, List, [], ◌∷◌, ◌++◌, length, codes, Option, Some, None}
+use Rattle.std.specs.Prelude.{◌≡◌, ℕ, zero, suc, Bool, true, false, ◌==◌, ◌||◌, not, if◌then◌else◌, List, [], ◌∷◌, ◌++◌}
+use Rattle.std.specs.Prelude.{length, codes, Option, Some, None}
 use Rattle.std.specs.List.{list_any, filter}
 use Rattle.alpha_words.specs.declared.Completion.TheVariants.{Wrap}
 use Rattle.alpha_image.specs.Parts.{Parts, place_of}
@@ -13,7 +14,8 @@ use Rattle.alpha_seq.specs.Start.{start}
 use Rattle.alpha_seq.specs.Run.{put, end_of, is_over}
 use Rattle.alpha_seq.specs.Notes.{register_lines}
 use Rattle.alpha_debug.specs.declared.command.Command.{Command}
-use Rattle.alpha_debug.specs.declared.command.Command.TheVariants.{Nothing, Step, Go, Barrier, Break, Clear, Registers, Memory, Listing, Shadow, Log, Quit}
+use Rattle.alpha_debug.specs.declared.command.Command.TheVariants.{Nothing, Step, Go, Barrier, Break, Clear, Registers}
+use Rattle.alpha_debug.specs.declared.command.Command.TheVariants.{Memory, Listing, Shadow, Log, Quit}
 use Rattle.alpha_debug.specs.declared.watcher.Until.{Until}
 use Rattle.alpha_debug.specs.declared.watcher.Until.TheVariants as until
 use Rattle.alpha_debug.specs.Command.{most_steps}
@@ -24,8 +26,8 @@ pub record Setting : Type 0 where
   pub program : Program
   pub verdict : Option Broken
 
--- How a session stands: the state of the program, whose input is empty; all that the session and the program have written;
--- the breakpoints; how the program ended, if it has; and whether `quit` came.
+-- How a session stands: the state of the program, whose input is empty; all that the session and the program have
+-- written; the breakpoints; how the program ended, if it has; and whether `quit` came.
 pub record Session : Type 0 where
   pub state : State
   pub text : List ℕ
@@ -42,7 +44,7 @@ IsVerdict words (Some broken) = IsLeastBroken words broken
 
 -- an overflow wraps
 pub record IsSetting (image : Parts) (g : Setting) : Type 0 where
-  pub program : g.program ≡ record { image = image; how = Wrap }
+  pub program : g.program ≡ record { image = image; completion = Wrap }
   pub verdict : IsVerdict image.words g.verdict
 
 -- the program stands at its start, over an empty input
@@ -55,8 +57,8 @@ opened g = record { state = start g.program; text = []; points = []; end = None;
 abbrev pub text_of : Session → List ℕ
 text_of s = s.text
 
-abbrev pub saying : Session → List ℕ → Session
-saying s bytes = record s { text = s.text ++ bytes }
+abbrev pub with_text : Session → List ℕ → Session
+with_text s bytes = record s { text = s.text ++ bytes }
 
 -- ---- steps
 
@@ -79,36 +81,37 @@ abbrev pub is_last : Until → List ℕ → Event → ℕ → Bool
 is_last wanted points event pc = is_over event || is_reached wanted points (is_barrier event) pc
 
 -- where some steps lead, what is written then, and how the program ended, if it has
-pub record Walked : Type 0 where
+pub record StepsResult : Type 0 where
   pub state : State
   pub text : List ℕ
   pub end : Option End
 
 -- at most n steps with no input, behind a text, fewer where the program ends or the wanted step came
-unfoldable pub walk : Program → Until → List ℕ → ℕ → State → List ℕ → Walked
-walk g wanted points zero s text = record { state = s; text = text; end = None }
-walk g wanted points (suc n) s text =
+unfoldable pub step_until : Program → Until → List ℕ → ℕ → State → List ℕ → StepsResult
+step_until g wanted points zero s text = record { state = s; text = text; end = None }
+step_until g wanted points (suc n) s text =
     let t = step_from g s [] in
-    if is_last wanted points t.event t.state.pc then record { state = t.state; text = text ++ put t.event; end = end_of t.event }
-    else walk g wanted points n t.state (text ++ put t.event)
+    if is_last wanted points t.event t.state.pc
+    then record { state = t.state; text = text ++ put t.event; end = end_of t.event }
+    else step_until g wanted points n t.state (text ++ put t.event)
 
-abbrev pub walking : Session → Walked → Session
-walking s w = record s { state = w.state; text = w.text; end = w.end }
+abbrev pub with_steps : Session → StepsResult → Session
+with_steps s w = record s { state = w.state; text = w.text; end = w.end }
 
 -- a program that has ended makes no step
-abbrev pub if_going : Option End → Session → Walked → Session
-if_going None s w = walking s w
+abbrev pub if_going : Option End → Session → StepsResult → Session
+if_going None s w = with_steps s w
 if_going (Some end) s w = s
 
 -- where the program stands is said
-abbrev pub saying_where : Session → Session
-saying_where s = saying s (where_line s.end s.state.pc)
+abbrev pub with_where_line : Session → Session
+with_where_line s = with_text s (where_line s.end s.state.pc)
 
-abbrev pub going : Setting → Until → ℕ → Session → Session
-going g wanted most s = if_going s.end s (walk g.program wanted s.points most s.state s.text)
+abbrev pub if_not_ended : Setting → Until → ℕ → Session → Session
+if_not_ended g wanted most s = if_going s.end s (step_until g.program wanted s.points most s.state s.text)
 
-abbrev pub travel : Setting → Until → ℕ → Session → Session
-travel g wanted most s = saying_where (going g wanted most s)
+abbrev pub continue_until : Setting → Until → ℕ → Session → Session
+continue_until g wanted most s = with_where_line (if_not_ended g wanted most s)
 
 -- ---- breakpoints
 
@@ -122,13 +125,13 @@ ok = ended (codes "ok")
 -- one more, unless it is there or there is no room
 abbrev pub adding : Session → ℕ → Session
 adding s at =
-    if has_point s.points at then saying s ok
-    else if length s.points == most_points then saying s (ended (codes "full"))
-    else saying (record s { points = s.points ++ at ∷ [] }) ok
+    if has_point s.points at then with_text s ok
+    else if length s.points == most_points then with_text s (ended (codes "full"))
+    else with_text (record s { points = s.points ++ at ∷ [] }) ok
 
 -- without one, if it is there
 abbrev pub clearing : Session → ℕ → Session
-clearing s at = saying (record s { points = filter (λ point. not (point == at)) s.points }) ok
+clearing s at = with_text (record s { points = filter (λ point. not (point == at)) s.points }) ok
 
 -- ---- commands
 
@@ -154,10 +157,10 @@ shown g command s = ended (codes "?")
 
 abbrev pub answer : Setting → Command → Session → Session
 answer g Nothing s = s
-answer g (Step n) s = travel g until.Spent n s
-answer g Go s = travel g until.Breakpoint most_steps s
-answer g Barrier s = travel g until.Barrier most_steps s
+answer g (Step n) s = continue_until g until.Spent n s
+answer g Go s = continue_until g until.Breakpoint most_steps s
+answer g Barrier s = continue_until g until.Barrier most_steps s
 answer g (Break at) s = adding s at
 answer g (Clear at) s = clearing s at
 answer g Quit s = record s { over = true }
-answer g command s = saying s (shown g command s.state)
+answer g command s = with_text s (shown g command s.state)

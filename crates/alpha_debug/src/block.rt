@@ -1,8 +1,8 @@
 //! A block of bytes on their way to a sink.
 
 ghost use Rattle.std.specs.Prelude.{◌≡◌, ◌+◌, ◌-◌, ◌≤◌, [], ◌++◌, length, take, OnOk, OnErr};
-ghost use Rattle.alpha_io.specs.Sunk.{sunk, Puts};
-ghost use Rattle.alpha_debug.specs.Gathered.{gathered, put_for, waits_for, CutShort, Stops};
+ghost use Rattle.alpha_io.specs.SinkChange.{sink_change, Puts};
+ghost use Rattle.alpha_debug.specs.OutputChange.{output_change, put_for, waits_for, CutShort, SinkFailsWith};
 
 use alpha_io::{Failed, Sink, write_whole};
 use std::marker::Model;
@@ -59,10 +59,10 @@ impl Block {
 
     /// Puts all bytes, without which the block is empty.
     pub fn flush<K: Sink>(&mut self, out: &mut K) -> Result<(), Failed>
-        ensures ok { OnOk result (Puts (sunk K.Sink out.old out.new) self.old) }
+        ensures ok { OnOk result (Puts (sink_change K.Sink out.old out.new) self.old) }
         ensures empty { OnOk result (self.new ≡ []) }
         ensures refused { OnErr result
-            (Stops (gathered K.Sink out.old self.old out.new self.new) []) }
+            (SinkFailsWith (output_change K.Sink out.old self.old out.new self.new) []) }
     {
         write_whole(out, &self.bytes[..self.len])?;
         self.len = 0;
@@ -71,10 +71,10 @@ impl Block {
 
     /// Takes all of the bytes, and puts those before them where they don't fit.
     pub fn gather<K: Sink>(&mut self, bytes: &[u8], out: &mut K) -> Result<(), Failed>
-        ensures puts { OnOk result (Puts (sunk K.Sink out.old out.new) (put_for self.old bytes.now)) }
+        ensures puts { OnOk result (Puts (sink_change K.Sink out.old out.new) (put_for self.old bytes.now)) }
         ensures waits { OnOk result (self.new ≡ waits_for self.old bytes.now) }
         ensures refused { OnErr result
-            (CutShort (sunk K.Sink out.old out.new) (put_for self.old bytes.now)) }
+            (CutShort (sink_change K.Sink out.old out.new) (put_for self.old bytes.now)) }
     {
         if bytes.len() <= BLOCK_ROOM - self.len {
             self.push(bytes);

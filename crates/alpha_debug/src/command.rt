@@ -1,6 +1,7 @@
 ghost use Rattle.std.specs.Prelude.{◌≡◌};
 ghost use Rattle.std.specs.Str.{bytes_eq};
-ghost use Rattle.alpha_debug.specs.Command.{command_of, command_in, words, alone, asking, with_number, with_range, by_number, by_range, is_within};
+ghost use Rattle.alpha_debug.specs.Command.{command_of, command_in, words, alone, asking, with_number, with_range};
+ghost use Rattle.alpha_debug.specs.Command.{by_number, by_range, is_within};
 
 use crate::word::{first_word, number_in};
 

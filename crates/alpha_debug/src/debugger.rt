@@ -1,16 +1,17 @@
 ghost use Rattle.std.specs.Prelude.{◌≡◌, [], IsTrue, IfOk, OnOk, OnErr};
-ghost use Rattle.alpha_debug.specs.Gathered.{Gathers, Stops};
+ghost use Rattle.alpha_debug.specs.OutputChange.{AppendsOutput, SinkFailsWith};
 ghost use Rattle.alpha_seq.specs.Machine.{state_of};
-ghost use Rattle.alpha_debug.specs.Session.{IsVerdict, going, travel, adding, clearing, is_shown, shown};
-ghost use Rattle.alpha_debug.specs.Effects.{setting_of, spoken, with_block, IsOpened, Remains, Makes, Fails, Answers, AnswerFails};
+ghost use Rattle.alpha_debug.specs.Session.{IsVerdict, if_not_ended, continue_until, adding, clearing, is_shown, shown};
+ghost use Rattle.alpha_debug.specs.Effects.{setting_of, session_output, with_block, IsOpened, Remains, SessionEffect};
+ghost use Rattle.alpha_debug.specs.Effects.{Fails, Answers, AnswerFails};
 
 use crate::block::Block;
 use crate::breakpoints::{MOST_POINTS, has_point, remove_point};
 use crate::command::{Command, MOST_STEPS};
 use crate::print::{
-    log_line, print_code, print_memory, print_registers, say, verdict_line, where_line,
+    emit, log_line, print_code, print_memory, print_registers, verdict_line, where_line,
 };
-use crate::travel::walk;
+use crate::stepping::step_until;
 use crate::watcher::{Until, Watcher};
 use alpha_image::Image;
 use alpha_io::{Failed, Sink};
@@ -36,9 +37,9 @@ pub(crate) struct Debugger {
 
 /// Whether a session goes on.
 #[derive(Clone, Copy, Debug, PartialEq, Eq)]
-pub(crate) enum Talk {
+pub(crate) enum SessionState {
     /// The session goes on.
-    GoesOn,
+    Continues,
     /// `quit` came.
     Quits,
 }
@@ -63,94 +64,99 @@ impl Debugger {
     }
 
     /// Answers a command.
-    pub fn answer<K: Sink>(&mut self, command: Command, out: &mut K) -> Result<Talk, Failed>
+    pub fn answer<K: Sink>(&mut self, command: Command, out: &mut K) -> Result<SessionState, Failed>
         requires { IsTrue self.old.machine.kernel.user }
         ensures ok { IfOk result (λ talk. Answers command talk self.old self.new
-            (spoken K.Sink out.old self.old out.new self.new)) }
+            (session_output K.Sink out.old self.old out.new self.new)) }
         ensures refused { OnErr result (AnswerFails command self.old
-            (spoken K.Sink out.old self.old out.new self.new)) }
+            (session_output K.Sink out.old self.old out.new self.new)) }
         ensures same { Remains self.old self.new }
     {
         match command {
             Command::Nothing => {}
-            Command::Step(n) => self.travel(Until::Spent, n, out)?,
-            Command::Go => self.travel(Until::Breakpoint, MOST_STEPS, out)?,
-            Command::Barrier => self.travel(Until::Barrier, MOST_STEPS, out)?,
+            Command::Step(n) => self.continue_until(Until::Spent, n, out)?,
+            Command::Go => self.continue_until(Until::Breakpoint, MOST_STEPS, out)?,
+            Command::Barrier => self.continue_until(Until::Barrier, MOST_STEPS, out)?,
             Command::Break(at) => self.add(at, out)?,
             Command::Clear(at) => self.clear(at, out)?,
-            Command::Quit => return Ok(Talk::Quits),
+            Command::Quit => return Ok(SessionState::Quits),
             command => self.show(command, out)?,
         }
-        Ok(Talk::GoesOn)
+        Ok(SessionState::Continues)
     }
 
     // Makes steps, and says where the program stands.
-    fn travel<K: Sink>(&mut self, until: Until, most: u64, out: &mut K) -> Result<(), Failed>
+    fn continue_until<K: Sink>(
+        &mut self,
+        until: Until,
+        most: u64,
+        out: &mut K,
+    ) -> Result<(), Failed>
         requires { IsTrue self.old.machine.kernel.user }
-        ensures ok { OnOk result (Makes (travel (setting_of self.old) until most) self.old self.new
-            (spoken K.Sink out.old self.old out.new self.new)) }
-        ensures refused { OnErr result (Fails (travel (setting_of self.old) until most) self.old
-            (spoken K.Sink out.old self.old out.new self.new)) }
+        ensures ok { OnOk result (SessionEffect (continue_until (setting_of self.old) until most) self.old self.new
+            (session_output K.Sink out.old self.old out.new self.new)) }
+        ensures refused { OnErr result (Fails (continue_until (setting_of self.old) until most) self.old
+            (session_output K.Sink out.old self.old out.new self.new)) }
         ensures same { Remains self.old self.new }
     {
         self.make_steps(until, most, out)?;
         let line = where_line(self.end, self.machine.pc);
-        say(line.as_bytes(), &mut self.watcher.block, out)
+        emit(line.as_bytes(), &mut self.watcher.block, out)
     }
 
     // Makes steps, unless the program has ended.
     fn make_steps<K: Sink>(&mut self, until: Until, most: u64, out: &mut K) -> Result<(), Failed>
         requires { IsTrue self.old.machine.kernel.user }
-        ensures ok { OnOk result (Makes (going (setting_of self.old) until most) self.old self.new
-            (spoken K.Sink out.old self.old out.new self.new)) }
-        ensures refused { OnErr result (Fails (going (setting_of self.old) until most) self.old
-            (spoken K.Sink out.old self.old out.new self.new)) }
+        ensures ok { OnOk result (SessionEffect (if_not_ended (setting_of self.old) until most) self.old self.new
+            (session_output K.Sink out.old self.old out.new self.new)) }
+        ensures refused { OnErr result (Fails (if_not_ended (setting_of self.old) until most) self.old
+            (session_output K.Sink out.old self.old out.new self.new)) }
         ensures same { Remains self.old self.new }
     {
         if self.end.is_some() {
             return Ok(());
         }
         self.watcher.until = until;
-        self.end = walk(&mut self.machine, &mut self.watcher, most, out)?;
+        self.end = step_until(&mut self.machine, &mut self.watcher, most, out)?;
         Ok(())
     }
 
     // Adds a breakpoint.
     fn add<K: Sink>(&mut self, at: u64, out: &mut K) -> Result<(), Failed>
-        ensures ok { OnOk result (Makes (λ s. adding s at) self.old self.new
-            (spoken K.Sink out.old self.old out.new self.new)) }
+        ensures ok { OnOk result (SessionEffect (λ s. adding s at) self.old self.new
+            (session_output K.Sink out.old self.old out.new self.new)) }
         ensures refused { OnErr result (Fails (λ s. adding s at) self.old
-            (spoken K.Sink out.old self.old out.new self.new)) }
+            (session_output K.Sink out.old self.old out.new self.new)) }
         ensures same { Remains self.old self.new }
     {
         if has_point(self.watcher.points.as_slice(), at) {
-            return say(b"ok\n", &mut self.watcher.block, out);
+            return emit(b"ok\n", &mut self.watcher.block, out);
         }
         if self.watcher.points.len() == MOST_POINTS {
-            return say(b"full\n", &mut self.watcher.block, out);
+            return emit(b"full\n", &mut self.watcher.block, out);
         }
         self.watcher.points.push(at);
-        say(b"ok\n", &mut self.watcher.block, out)
+        emit(b"ok\n", &mut self.watcher.block, out)
     }
 
     // Removes a breakpoint.
     fn clear<K: Sink>(&mut self, at: u64, out: &mut K) -> Result<(), Failed>
-        ensures ok { OnOk result (Makes (λ s. clearing s at) self.old self.new
-            (spoken K.Sink out.old self.old out.new self.new)) }
+        ensures ok { OnOk result (SessionEffect (λ s. clearing s at) self.old self.new
+            (session_output K.Sink out.old self.old out.new self.new)) }
         ensures refused { OnErr result (Fails (λ s. clearing s at) self.old
-            (spoken K.Sink out.old self.old out.new self.new)) }
+            (session_output K.Sink out.old self.old out.new self.new)) }
         ensures same { Remains self.old self.new }
     {
         remove_point(&mut self.watcher.points, at);
-        say(b"ok\n", &mut self.watcher.block, out)
+        emit(b"ok\n", &mut self.watcher.block, out)
     }
 
     // Answers a command that changes nothing but what is written.
     fn show<K: Sink>(&mut self, command: Command, out: &mut K) -> Result<(), Failed>
         requires { IsTrue (is_shown command) }
-        ensures ok { OnOk result (Gathers (spoken K.Sink out.old self.old out.new self.new)
+        ensures ok { OnOk result (AppendsOutput (session_output K.Sink out.old self.old out.new self.new)
             (shown (setting_of self.old) command (state_of self.old.machine))) }
-        ensures refused { OnErr result (Stops (spoken K.Sink out.old self.old out.new self.new)
+        ensures refused { OnErr result (SinkFailsWith (session_output K.Sink out.old self.old out.new self.new)
             (shown (setting_of self.old) command (state_of self.old.machine))) }
         ensures same { self.new ≡ with_block self.old self.new.watcher.block }
     {
@@ -162,13 +168,13 @@ impl Debugger {
             Command::Listing(at, count) => print_code(&machine.image, at, count, block, out),
             Command::Shadow => {
                 let line = verdict_line(self.verdict, machine.image.code_base());
-                say(line.as_bytes(), block, out)
+                emit(line.as_bytes(), block, out)
             }
             Command::Log => {
                 let line = log_line(machine.overflows, machine.last);
-                say(line.as_bytes(), block, out)
+                emit(line.as_bytes(), block, out)
             }
-            _ => say(b"?\n", block, out),
+            _ => emit(b"?\n", block, out),
         }
     }
 }

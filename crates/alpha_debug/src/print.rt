@@ -1,10 +1,11 @@
 ghost use Rattle.std.specs.Prelude.{◌≡◌, ◌≤◌, ◌<◌, ◌+◌, ◌*◌, ◌^◌, ◌++◌, length, OnOk, OnErr, Some, slice_index};
 ghost use Rattle.hex.specs.Hex.{encode_lower};
 ghost use Rattle.alpha_io.specs.declared.line.TheConstants.{LINE_ROOM};
-ghost use Rattle.alpha_debug.specs.Gathered.{gathered, Gathers, Stops};
+ghost use Rattle.alpha_debug.specs.OutputChange.{output_change, AppendsOutput, SinkFailsWith};
 ghost use Rattle.alpha_image.specs.Parts.{place_of};
 ghost use Rattle.alpha_seq.specs.Notes.{register_lines};
-ghost use Rattle.alpha_debug.specs.Lines.{where_line, memory_line, bytes_lines, memory_lines, code_line, code_lines, verdict_line, log_line};
+ghost use Rattle.alpha_debug.specs.Lines.{where_line, memory_line, bytes_lines, memory_lines, code_line, code_lines};
+ghost use Rattle.alpha_debug.specs.Lines.{verdict_line, log_line};
 
 use crate::block::Block;
 use alpha_image::Image;
@@ -20,9 +21,10 @@ use alpha_words::RegFile;
 const ROW: usize = 16;
 
 /// Takes all of the bytes: they wait in the block until it is full.
-pub(crate) fn say<K: Sink>(bytes: &[u8], block: &mut Block, out: &mut K) -> Result<(), Failed>
-    ensures ok { OnOk result (Gathers (gathered K.Sink out.old block.old out.new block.new) bytes.now) }
-    ensures refused { OnErr result (Stops (gathered K.Sink out.old block.old out.new block.new) bytes.now) }
+pub(crate) fn emit<K: Sink>(bytes: &[u8], block: &mut Block, out: &mut K) -> Result<(), Failed>
+    ensures ok { OnOk result (AppendsOutput (output_change K.Sink out.old block.old out.new block.new) bytes.now) }
+    ensures refused { OnErr result
+        (SinkFailsWith (output_change K.Sink out.old block.old out.new block.new) bytes.now) }
 {
     block.gather(bytes, out)
 }
@@ -33,9 +35,9 @@ pub(crate) fn print_registers<K: Sink>(
     block: &mut Block,
     out: &mut K,
 ) -> Result<(), Failed>
-    ensures ok { OnOk result (Gathers (gathered K.Sink out.old block.old out.new block.new)
+    ensures ok { OnOk result (AppendsOutput (output_change K.Sink out.old block.old out.new block.new)
         (register_lines regs.now)) }
-    ensures refused { OnErr result (Stops (gathered K.Sink out.old block.old out.new block.new)
+    ensures refused { OnErr result (SinkFailsWith (output_change K.Sink out.old block.old out.new block.new)
         (register_lines regs.now)) }
 {
     let waiting = block.len();
@@ -102,30 +104,30 @@ pub(crate) fn print_memory<K: Sink>(
     block: &mut Block,
     out: &mut K,
 ) -> Result<(), Failed>
-    ensures ok { OnOk result (Gathers (gathered K.Sink out.old block.old out.new block.new)
+    ensures ok { OnOk result (AppendsOutput (output_change K.Sink out.old block.old out.new block.new)
         (memory_lines memory.now at count)) }
-    ensures refused { OnErr result (Stops (gathered K.Sink out.old block.old out.new block.new)
+    ensures refused { OnErr result (SinkFailsWith (output_change K.Sink out.old block.old out.new block.new)
         (memory_lines memory.now at count)) }
 {
     match memory.bytes(at, count) {
         Some(bytes) => print_bytes(at, bytes, block, out),
-        None => say(b"bad range\n", block, out),
+        None => emit(b"bad range\n", block, out),
     }
 }
 
 // Takes bytes in lines of sixteen, the first of which stand at an address.
 fn print_bytes<K: Sink>(at: u64, bytes: &[u8], block: &mut Block, out: &mut K) -> Result<(), Failed>
     requires { at + length bytes.now < 2 ^ 64 }
-    ensures ok { OnOk result (Gathers (gathered K.Sink out.old block.old out.new block.new)
+    ensures ok { OnOk result (AppendsOutput (output_change K.Sink out.old block.old out.new block.new)
         (bytes_lines at bytes.now)) }
-    ensures refused { OnErr result (Stops (gathered K.Sink out.old block.old out.new block.new)
+    ensures refused { OnErr result (SinkFailsWith (output_change K.Sink out.old block.old out.new block.new)
         (bytes_lines at bytes.now)) }
 {
     for k in 0..bytes.len().div_ceil(ROW) {
         let front = ROW * k;
         let end = bytes.len().min(front + ROW);
         let line = memory_line(at + front as u64, &bytes[front..end]);
-        say(line.as_bytes(), block, out)?;
+        emit(line.as_bytes(), block, out)?;
     }
     Ok(())
 }
@@ -153,14 +155,14 @@ pub(crate) fn print_code<K: Sink>(
     block: &mut Block,
     out: &mut K,
 ) -> Result<(), Failed>
-    ensures ok { OnOk result (Gathers (gathered K.Sink out.old block.old out.new block.new)
+    ensures ok { OnOk result (AppendsOutput (output_change K.Sink out.old block.old out.new block.new)
         (code_lines image.now (place_of image.now at) count)) }
-    ensures refused { OnErr result (Stops (gathered K.Sink out.old block.old out.new block.new)
+    ensures refused { OnErr result (SinkFailsWith (output_change K.Sink out.old block.old out.new block.new)
         (code_lines image.now (place_of image.now at) count)) }
 {
     match image.place_of(at) {
         Some(place) => print_words(image, place, count, block, out),
-        None => say(b"bad range\n", block, out),
+        None => emit(b"bad range\n", block, out),
     }
 }
 
@@ -173,21 +175,21 @@ fn print_words<K: Sink>(
     out: &mut K,
 ) -> Result<(), Failed>
     requires { place < length image.now.words }
-    ensures ok { OnOk result (Gathers (gathered K.Sink out.old block.old out.new block.new)
+    ensures ok { OnOk result (AppendsOutput (output_change K.Sink out.old block.old out.new block.new)
         (code_lines image.now (Some place) count)) }
-    ensures refused { OnErr result (Stops (gathered K.Sink out.old block.old out.new block.new)
+    ensures refused { OnErr result (SinkFailsWith (output_change K.Sink out.old block.old out.new block.new)
         (code_lines image.now (Some place) count)) }
 {
     let count = count.min(u64::from(image.words() - place));
     for k in 0..count {
         let line = code_line(image, place + k as u32);
-        say(line.as_bytes(), block, out)?;
+        emit(line.as_bytes(), block, out)?;
     }
     Ok(())
 }
 
 // The address of a code word, and the canonical line of its instruction.
-#[tactic(auto, using(crate::proofs::Printing::line_at), unfolding(crate::specs::Lines::code_line))]
+#[tactic(auto, using(crate::proofs::RowTexts::line_at), unfolding(crate::specs::Lines::code_line))]
 fn code_line(image: &Image, place: u32) -> Line
     requires { place < length image.now.words }
     ensures { result

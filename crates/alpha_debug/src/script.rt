@@ -1,9 +1,10 @@
 ghost use Rattle.std.specs.Prelude.{[], ◌∷◌, List, ℕ, IsTrue, IfOk, OnErr};
 ghost use Rattle.alpha_debug.specs.Command.{command_of};
-ghost use Rattle.alpha_debug.specs.Effects.{spoken, Remains, Answers, AnswerFails, IsHeld, Hears, HearFails};
+ghost use Rattle.alpha_debug.specs.Effects.{session_output, Remains, Answers, AnswerFails, IsPendingLine, FeedsBytes};
+ghost use Rattle.alpha_debug.specs.Effects.{FeedFails};
 
 use crate::command::{LINE_LIMIT, command_of};
-use crate::debugger::{Debugger, Talk};
+use crate::debugger::{Debugger, SessionState};
 use alpha_io::{Failed, Sink};
 use alpha_token::without_return;
 use arrayvec::ArrayVec;
@@ -12,58 +13,58 @@ use arrayvec::ArrayVec;
 const HELD: usize = LINE_LIMIT + 2;
 
 /// The front of the line in hand, without a line feed.
-pub(crate) type Held = ArrayVec<u8, HELD>;
+pub(crate) type PendingLine = ArrayVec<u8, HELD>;
 
 /// Answers the lines that end within these further bytes of the script, to a `quit`.
-pub(crate) fn hear<K: Sink>(
+pub(crate) fn feed<K: Sink>(
     debugger: &mut Debugger,
-    held: &mut Held,
+    pending: &mut PendingLine,
     bytes: &[u8],
     out: &mut K,
-) -> Result<Talk, Failed>
+) -> Result<SessionState, Failed>
     requires { IsTrue debugger.old.machine.kernel.user }
-    ensures ok { (begun : List ℕ) → IsHeld begun held.old.items
-        → IfOk result (λ talk. Hears bytes.now begun talk debugger.old debugger.new held.new.items
-        (spoken K.Sink out.old debugger.old out.new debugger.new)) }
-    ensures refused { (begun : List ℕ) → IsHeld begun held.old.items
-        → OnErr result (HearFails bytes.now begun debugger.old
-        (spoken K.Sink out.old debugger.old out.new debugger.new)) }
+    ensures ok { (begun : List ℕ) → IsPendingLine begun pending.old.items
+        → IfOk result (λ talk. FeedsBytes bytes.now begun talk debugger.old debugger.new pending.new.items
+        (session_output K.Sink out.old debugger.old out.new debugger.new)) }
+    ensures refused { (begun : List ℕ) → IsPendingLine begun pending.old.items
+        → OnErr result (FeedFails bytes.now begun debugger.old
+        (session_output K.Sink out.old debugger.old out.new debugger.new)) }
     ensures same { Remains debugger.old debugger.new }
 {
     for byte in bytes {
-        match hear_byte(debugger, held, *byte, out)? {
-            Talk::GoesOn => {}
-            Talk::Quits => return Ok(Talk::Quits),
+        match feed_byte(debugger, pending, *byte, out)? {
+            SessionState::Continues => {}
+            SessionState::Quits => return Ok(SessionState::Quits),
         }
     }
-    Ok(Talk::GoesOn)
+    Ok(SessionState::Continues)
 }
 
 // Takes a further byte of the script, and answers the line that it ends.
-fn hear_byte<K: Sink>(
+fn feed_byte<K: Sink>(
     debugger: &mut Debugger,
-    held: &mut Held,
+    pending: &mut PendingLine,
     byte: u8,
     out: &mut K,
-) -> Result<Talk, Failed>
+) -> Result<SessionState, Failed>
     requires { IsTrue debugger.old.machine.kernel.user }
-    ensures ok { (begun : List ℕ) → IsHeld begun held.old.items
-        → IfOk result (λ talk. Hears (byte ∷ []) begun talk debugger.old debugger.new held.new.items
-        (spoken K.Sink out.old debugger.old out.new debugger.new)) }
-    ensures refused { (begun : List ℕ) → IsHeld begun held.old.items
-        → OnErr result (HearFails (byte ∷ []) begun debugger.old
-        (spoken K.Sink out.old debugger.old out.new debugger.new)) }
+    ensures ok { (begun : List ℕ) → IsPendingLine begun pending.old.items
+        → IfOk result (λ talk. FeedsBytes (byte ∷ []) begun talk debugger.old debugger.new pending.new.items
+        (session_output K.Sink out.old debugger.old out.new debugger.new)) }
+    ensures refused { (begun : List ℕ) → IsPendingLine begun pending.old.items
+        → OnErr result (FeedFails (byte ∷ []) begun debugger.old
+        (session_output K.Sink out.old debugger.old out.new debugger.new)) }
     ensures same { Remains debugger.old debugger.new }
 {
     if byte == b'\n' {
-        let talk = answer_line(debugger, without_return(held.as_slice()), out)?;
-        held.clear();
+        let talk = answer_line(debugger, without_return(pending.as_slice()), out)?;
+        pending.clear();
         Ok(talk)
     } else {
-        if !held.is_full() {
-            held.push(byte);
+        if !pending.is_full() {
+            pending.push(byte);
         }
-        Ok(Talk::GoesOn)
+        Ok(SessionState::Continues)
     }
 }
 
@@ -72,12 +73,12 @@ pub(crate) fn answer_line<K: Sink>(
     debugger: &mut Debugger,
     line: &[u8],
     out: &mut K,
-) -> Result<Talk, Failed>
+) -> Result<SessionState, Failed>
     requires { IsTrue debugger.old.machine.kernel.user }
     ensures ok { IfOk result (λ talk. Answers (command_of line.now) talk debugger.old debugger.new
-        (spoken K.Sink out.old debugger.old out.new debugger.new)) }
+        (session_output K.Sink out.old debugger.old out.new debugger.new)) }
     ensures refused { OnErr result (AnswerFails (command_of line.now) debugger.old
-        (spoken K.Sink out.old debugger.old out.new debugger.new)) }
+        (session_output K.Sink out.old debugger.old out.new debugger.new)) }
     ensures same { Remains debugger.old debugger.new }
 {
     debugger.answer(command_of(line), out)

@@ -1,14 +1,16 @@
 ghost use Rattle.std.specs.Prelude.{◌≡◌, [], IsTrue, List, ℕ, IfOk, OnOk, OnErr};
-ghost use Rattle.alpha_io.specs.Sunk.{sunk};
+ghost use Rattle.alpha_io.specs.SinkChange.{sink_change};
 ghost use Rattle.alpha_seq.specs.Devices.{drawn};
 ghost use Rattle.alpha_debug.specs.DebugEffect.{DebugEffect};
 ghost use Rattle.alpha_debug.specs.Command.{command_of};
-ghost use Rattle.alpha_debug.specs.Gathered.{gathered};
-ghost use Rattle.alpha_debug.specs.Effects.{Remains, IsHeld, Answers, AnswerFails, Hears, HearFails, CloseEffect, TellEffect};
+ghost use Rattle.alpha_debug.specs.OutputChange.{output_change};
+ghost use Rattle.alpha_debug.specs.Effects.{Remains, IsPendingLine, Answers, AnswerFails, FeedsBytes, FeedFails};
+ghost use Rattle.alpha_debug.specs.Effects.{CloseEffect};
+ghost use Rattle.alpha_debug.specs.Effects.{TellEffect};
 
 use crate::DebugEnd;
-use crate::debugger::{Debugger, Talk};
-use crate::script::{Held, answer_line, hear};
+use crate::debugger::{Debugger, SessionState};
+use crate::script::{PendingLine, answer_line, feed};
 use alpha_image::Image;
 use alpha_io::{Failed, Sink, Source};
 use alpha_words::NoMemory;
@@ -23,12 +25,13 @@ const PIECE: usize = 16_384;
 
 /// Runs a script of commands on the program of an image, and writes its transcript.
 ///
-/// The script is cut into lines at its line feeds, before each of which one carriage return may stand; what stands behind
-/// the last one is a line where it isn't empty. Of its bytes the first 1,048,576 count. The session ends at `quit`, or at
-/// the end of the script. Memory is taken only while the session is made, before anything is taken or written.
+/// The script is cut into lines at its line feeds, before each of which one carriage return may stand; what stands
+/// behind the last one is a line where it isn't empty. Of its bytes the first 1,048,576 count. The session ends at
+/// `quit`, or at the end of the script. Memory is taken only while the session is made, before anything is taken or
+/// written.
 ///
-/// At most 1,048,577 bytes of the script are taken. Where a device fails, a prefix of the transcript was written. Without
-/// memory for the session the devices are not called.
+/// At most 1,048,577 bytes of the script are taken. Where a device fails, a prefix of the transcript was written.
+/// Without memory for the session the devices are not called.
 pub fn debug<S: Source, K: Sink>(
     alloc: Global,
     image: Image,
@@ -37,22 +40,22 @@ pub fn debug<S: Source, K: Sink>(
 ) -> DebugEnd
     ensures effect { DebugEffect result image
         (drawn S.Source script.old script.new)
-        (sunk K.Sink out.old out.new) }
+        (sink_change K.Sink out.old out.new) }
     ensures same { result ≡ DebugEnd.NoMemory → (script.new ≡ script.old) × (out.new ≡ out.old) }
 {
     match Debugger::new(alloc, image) {
-        Ok(mut debugger) => converse(&mut debugger, script, out),
+        Ok(mut debugger) => run_session(&mut debugger, script, out),
         Err(NoMemory) => DebugEnd::NoMemory,
     }
 }
 
 // Answers the lines of a script.
-fn converse<S: Source, K: Sink>(debugger: &mut Debugger, script: &mut S, out: &mut K) -> DebugEnd
+fn run_session<S: Source, K: Sink>(debugger: &mut Debugger, script: &mut S, out: &mut K) -> DebugEnd
     requires mode { IsTrue debugger.old.machine.kernel.user }
     requires block { debugger.old.watcher.block ≡ [] }
     ensures { TellEffect result debugger.old
         (drawn S.Source script.old script.new)
-        (gathered K.Sink out.old [] out.new []) }
+        (output_change K.Sink out.old [] out.new []) }
 {
     let mut held = ArrayVec::new();
     let mut space = [0; PIECE];
@@ -66,9 +69,9 @@ fn converse<S: Source, K: Sink>(debugger: &mut Debugger, script: &mut S, out: &m
         if count == 0 {
             return close(debugger, &held, out);
         }
-        match hear_piece(debugger, &mut held, &piece[..count], out) {
-            Ok(Talk::GoesOn) => {}
-            Ok(Talk::Quits) => return DebugEnd::Done,
+        match feed_piece(debugger, &mut held, &piece[..count], out) {
+            Ok(SessionState::Continues) => {}
+            Ok(SessionState::Quits) => return DebugEnd::Done,
             Err(Failed) => return DebugEnd::SinkFault,
         }
         most -= count;
@@ -82,49 +85,53 @@ fn converse<S: Source, K: Sink>(debugger: &mut Debugger, script: &mut S, out: &m
 }
 
 // Answers the lines that end within these further bytes of the script, to a `quit`, and puts all answers.
-fn hear_piece<K: Sink>(
+fn feed_piece<K: Sink>(
     debugger: &mut Debugger,
-    held: &mut Held,
+    pending: &mut PendingLine,
     bytes: &[u8],
     out: &mut K,
-) -> Result<Talk, Failed>
+) -> Result<SessionState, Failed>
     requires mode { IsTrue debugger.old.machine.kernel.user }
     requires block { debugger.old.watcher.block ≡ [] }
-    ensures ok { (begun : List ℕ) → IsHeld begun held.old.items
-        → IfOk result (λ talk. Hears bytes.now begun talk debugger.old debugger.new held.new.items
-        (gathered K.Sink out.old [] out.new [])) }
-    ensures refused { (begun : List ℕ) → IsHeld begun held.old.items
-        → OnErr result (HearFails bytes.now begun debugger.old
-        (gathered K.Sink out.old [] out.new [])) }
+    ensures ok { (begun : List ℕ) → IsPendingLine begun pending.old.items
+        → IfOk result (λ talk. FeedsBytes bytes.now begun talk debugger.old debugger.new pending.new.items
+        (output_change K.Sink out.old [] out.new [])) }
+    ensures refused { (begun : List ℕ) → IsPendingLine begun pending.old.items
+        → OnErr result (FeedFails bytes.now begun debugger.old
+        (output_change K.Sink out.old [] out.new [])) }
     ensures block { OnOk result (debugger.new.watcher.block ≡ []) }
     ensures same { Remains debugger.old debugger.new }
 {
-    let talk = hear(debugger, held, bytes, out)?;
+    let talk = feed(debugger, pending, bytes, out)?;
     debugger.watcher.block.flush(out)?;
     Ok(talk)
 }
 
 // Ends a session at the end of the script: what stands behind its last line feed is answered.
-fn close<K: Sink>(debugger: &mut Debugger, held: &Held, out: &mut K) -> DebugEnd
+fn close<K: Sink>(debugger: &mut Debugger, pending: &PendingLine, out: &mut K) -> DebugEnd
     requires mode { IsTrue debugger.old.machine.kernel.user }
     requires block { debugger.old.watcher.block ≡ [] }
-    ensures { (begun : List ℕ) → IsHeld begun held.now.items → CloseEffect result begun debugger.old
-        (gathered K.Sink out.old [] out.new []) }
+    ensures { (begun : List ℕ) → IsPendingLine begun pending.now.items → CloseEffect result begun debugger.old
+        (output_change K.Sink out.old [] out.new []) }
 {
-    match answer_last(debugger, held.as_slice(), out) {
+    match answer_last(debugger, pending.as_slice(), out) {
         Ok(_) => DebugEnd::Done,
         Err(Failed) => DebugEnd::SinkFault,
     }
 }
 
 // Answers a line, and puts the answer.
-fn answer_last<K: Sink>(debugger: &mut Debugger, line: &[u8], out: &mut K) -> Result<Talk, Failed>
+fn answer_last<K: Sink>(
+    debugger: &mut Debugger,
+    line: &[u8],
+    out: &mut K,
+) -> Result<SessionState, Failed>
     requires mode { IsTrue debugger.old.machine.kernel.user }
     requires block { debugger.old.watcher.block ≡ [] }
     ensures ok { IfOk result (λ talk. Answers (command_of line.now) talk debugger.old debugger.new
-        (gathered K.Sink out.old [] out.new [])) }
+        (output_change K.Sink out.old [] out.new [])) }
     ensures refused { OnErr result (AnswerFails (command_of line.now) debugger.old
-        (gathered K.Sink out.old [] out.new [])) }
+        (output_change K.Sink out.old [] out.new [])) }
 {
     let talk = answer_line(debugger, line, out)?;
     debugger.watcher.block.flush(out)?;

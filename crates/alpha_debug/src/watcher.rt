@@ -1,8 +1,8 @@
 //! Who looks at the steps of a walk.
 
 ghost use Rattle.std.specs.Prelude.{◌≡◌, OnOk, OnErr};
-ghost use Rattle.alpha_io.specs.Sunk.{sunk, Puts};
-ghost use Rattle.alpha_debug.specs.Gathered.{CutShort};
+ghost use Rattle.alpha_io.specs.SinkChange.{sink_change, Puts};
+ghost use Rattle.alpha_debug.specs.OutputChange.{CutShort};
 ghost use Rattle.alpha_debug.specs.Session.{is_reached};
 ghost use Rattle.alpha_debug.specs.Watched.{was_barrier, put_behind, waits_behind};
 
@@ -89,10 +89,10 @@ fn take_put<N: Sink>(
     machine: &Machine,
     notes: &mut N,
 ) -> Result<(), Failed>
-    ensures puts { OnOk result (Puts (sunk N.Sink notes.old notes.new)
+    ensures puts { OnOk result (Puts (sink_change N.Sink notes.old notes.new)
         (put_behind block.old event.now machine.now.memory)) }
     ensures waits { OnOk result (block.new ≡ waits_behind block.old event.now machine.now.memory) }
-    ensures refused { OnErr result (CutShort (sunk N.Sink notes.old notes.new)
+    ensures refused { OnErr result (CutShort (sink_change N.Sink notes.old notes.new)
         (put_behind block.old event.now machine.now.memory)) }
 {
     match *event {

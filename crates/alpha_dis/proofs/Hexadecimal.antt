@@ -1,5 +1,6 @@
 -- Hexadecimal digits, written from the last one on.
-use Rattle.std.proofs.Common.{◌≡◌, ℕ, zero, suc, ◌+◌, ◌*◌, ◌/◌, ◌%◌, ◌^◌, ◌<◌, ◌≤◌, List, [], ◌∷◌, Bool, true, false, cond, eqb, refl, ap, ◌∙◌, add-one, arith}
+use Rattle.std.proofs.Common.{◌≡◌, ℕ, zero, suc, ◌+◌, ◌*◌, ◌/◌, ◌%◌, ◌^◌, ◌<◌, ◌≤◌, List, [], ◌∷◌, Bool, true, false}
+use Rattle.std.proofs.Common.{cond, eqb, refl, ap, ◌∙◌, add-one, arith}
 use Rattle.std.specs.Fmt.{digits, digits_onto, digit_glyph}
 use Rattle.std.proofs.lemmas.Bool.{eq-eqb, ne_eqb}
 use Rattle.std.proofs.Math.Nat.{pow-suc}
@@ -13,12 +14,17 @@ unfolding onto digits
 onto-none n = refl
 
 by_last : (k n : ℕ) (written : List ℕ) (is_last : Bool) → eqb (n / 16) 0 ≡ is_last
-    → digits_onto (suc k) 16 false n written ≡ cond is_last (digit_glyph false (n % 16) ∷ written) (digits_onto k 16 false (n / 16) (digit_glyph false (n % 16) ∷ written))
+    → digits_onto (suc k) 16 false n written
+    ≡ cond is_last (digit_glyph false (n % 16) ∷ written)
+    (digits_onto k 16 false (n / 16) (digit_glyph false (n % 16) ∷ written))
 by_last k n written is_last e =
-    ap (λ (b : Bool). cond b (digit_glyph false (n % 16) ∷ written) (digits_onto k 16 false (n / 16) (digit_glyph false (n % 16) ∷ written))) e
+    ap (λ (b : Bool). cond b (digit_glyph false (n % 16) ∷ written)
+    (digits_onto k 16 false (n / 16) (digit_glyph false (n % 16) ∷ written)))
+    e
 
 -- the last digit of a number that has more
-pub onto-more : (most n : ℕ) (written : List ℕ) → 16 ≤ n → onto (suc most) n written ≡ onto most (n / 16) (digit_glyph false (n % 16) ∷ written)
+pub onto-more : (most n : ℕ) (written : List ℕ) → 16 ≤ n
+    → onto (suc most) n written ≡ onto most (n / 16) (digit_glyph false (n % 16) ∷ written)
 unfolding onto
 onto-more most n written more =
     ap (λ (k : ℕ). digits_onto k 16 false n written) {x = suc most + 48} {y = suc (most + 48)} (omega arith)

@@ -14,5 +14,6 @@ each_long = refl
 
 pub name_of-long : (m : Mnemonic) → 2 ≤ length (name_of m)
 name_of-long m =
-    let h : nat_le 2 (length (name_of m)) ≡ true = found-all (λ n. bytes_eq (name_of n) (name_of m)) (λ n. nat_le 2 (length (name_of n))) every_mnemonic m each_long (mnemonic_at-name m) in
+    let h : nat_le 2 (length (name_of m)) ≡ true = found-all (λ n. bytes_eq (name_of n) (name_of m))
+    (λ n. nat_le 2 (length (name_of n))) every_mnemonic m each_long (mnemonic_at-name m) in
     grind (arith, nat_tests, h)

@@ -1,3 +1,3 @@
 pub mod Listing
-pub mod Taken
+pub mod SinkEffect
 pub mod Written

@@ -1,5 +1,6 @@
 -- The listing of an image: the lines of source that say it.
-use Rattle.std.specs.Prelude.{ℕ, zero, suc, ◌+◌, ◌/◌, ◌++◌, List, [], ◌∷◌, false, codes, decimal, length, map, take, drop}
+use Rattle.std.specs.Prelude.{ℕ, zero, suc, ◌+◌, ◌/◌, ◌++◌, List, [], ◌∷◌, false, codes, decimal, length, map, take}
+use Rattle.std.specs.Prelude.{drop}
 use Rattle.std.specs.Fmt.{digits}
 use Rattle.std.specs.List.{flat_map, join_with_byte}
 use Rattle.std.specs.Option.{option_map_or}

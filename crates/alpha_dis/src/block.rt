@@ -1,10 +1,10 @@
 //! A block of bytes on their way to a sink.
 
 ghost use Rattle.std.specs.Prelude.{◌≡◌, ◌+◌, ◌≤◌, [], ◌∷◌, ◌++◌, length, decimal, OnOk, OnErr};
-ghost use Rattle.alpha_io.specs.Sunk.{sunk, Puts};
+ghost use Rattle.alpha_io.specs.SinkChange.{sink_change, Puts};
 ghost use Rattle.alpha_text.specs.Canon.{canon};
 ghost use Rattle.alpha_dis.specs.Listing.{ended};
-ghost use Rattle.alpha_dis.specs.Taken.{Takes, Stops};
+ghost use Rattle.alpha_dis.specs.SinkEffect.{Takes, SinkFails};
 
 use crate::code::put_code;
 use alpha_io::{Failed, Sink, write_whole};
@@ -49,9 +49,9 @@ impl Block {
 
     /// Puts all bytes, without which the block is empty.
     pub fn flush<K: Sink>(&mut self, out: &mut K) -> Result<(), Failed>
-        ensures ok { OnOk result (Puts (sunk K.Sink out.old out.new) self.old) }
+        ensures ok { OnOk result (Puts (sink_change K.Sink out.old out.new) self.old) }
         ensures empty { OnOk result (self.new ≡ []) }
-        ensures refused { OnErr result (Stops (sunk K.Sink out.old out.new) self.old) }
+        ensures refused { OnErr result (SinkFails (sink_change K.Sink out.old out.new) self.old) }
     {
         write_whole(out, &self.bytes[..self.len])?;
         self.len = 0;
@@ -61,9 +61,9 @@ impl Block {
     /// Puts all bytes where the block has less room than [`ROOM`].
     pub fn make_room<K: Sink>(&mut self, out: &mut K) -> Result<(), Failed>
         ensures ok { OnOk result
-            (Takes (sunk K.Sink out.old out.new) self.old self.new []) }
+            (Takes (sink_change K.Sink out.old out.new) self.old self.new []) }
         ensures room { OnOk result (length self.new + ROOM ≤ BLOCK_ROOM) }
-        ensures refused { OnErr result (Stops (sunk K.Sink out.old out.new) self.old) }
+        ensures refused { OnErr result (SinkFails (sink_change K.Sink out.old out.new) self.old) }
     {
         if self.len + ROOM <= BLOCK_ROOM {
             Ok(())

@@ -3,7 +3,8 @@
 ghost use Rattle.std.specs.Prelude.{◌≡◌, ◌+◌, ◌≤◌, ◌++◌, length};
 ghost use Rattle.alpha_table.specs.Names.{name_of};
 ghost use Rattle.alpha_table.specs.Row.{IsInsn, IsSigned};
-ghost use Rattle.alpha_text.specs.Canon.{spell, spelled, signed_words, distance_words, source_word, first_words, base_words, source_words, canon};
+ghost use Rattle.alpha_text.specs.Canon.{spell, spelled, signed_words, distance_words, source_word, first_words};
+ghost use Rattle.alpha_text.specs.Canon.{base_words, source_words, canon};
 ghost use Rattle.alpha_text.specs.Canon as words;
 ghost use Rattle.alpha_dis.specs.declared.block.TheConstants.{BLOCK_ROOM};
 ghost use Rattle.alpha_dis.specs.Listing.{ended};

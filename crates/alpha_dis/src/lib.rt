@@ -10,7 +10,7 @@
 //!
 //! `specs/Listing.antt` has the lines. `lines.rt` writes those of directives and bytes, `digits.rt` the
 //! digits of an address, and `listing.rt` all of the lines. They go into a [`Block`](block::Block), which
-//! is put to the sink where it is full and at the end (`block.rt`, `specs/Taken.antt`). Most lines of most
+//! is put to the sink where it is full and at the end (`block.rt`, `specs/SinkEffect.antt`). Most lines of most
 //! listings are those of instructions: `code.rt` puts them straight into the room behind the block's bytes,
 //! in pieces that a few loads and stores copy (`pieces.rt`, `specs/Written.antt`).
 #![tactic(auto)]

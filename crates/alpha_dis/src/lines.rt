@@ -3,7 +3,8 @@
 ghost use Rattle.std.specs.Prelude.{◌≡◌, ◌+◌, ◌*◌, ◌≤◌, ◌++◌, decimal, length, map};
 ghost use Rattle.std.specs.List.{join_with_byte};
 ghost use Rattle.alpha_dis.specs.declared.block.TheConstants.{BLOCK_ROOM, ROOM};
-ghost use Rattle.alpha_dis.specs.Listing.{ended, text, address_line, count_line, first_lines, heading, segment_line, byte_line};
+ghost use Rattle.alpha_dis.specs.Listing.{ended, text, address_line, count_line, first_lines, heading, segment_line};
+ghost use Rattle.alpha_dis.specs.Listing.{byte_line};
 
 use crate::block::Block;
 use crate::digits::push_hexadecimal;

@@ -1,8 +1,8 @@
 ghost use Rattle.std.specs.Prelude.{◌≡◌, ◌<◌, ◌++◌, length, map, slice_get, Some, OnOk, OnErr};
 ghost use Rattle.std.specs.List.{flat_map};
-ghost use Rattle.alpha_io.specs.Sunk.{sunk, Puts, Partly, HasFailed};
+ghost use Rattle.alpha_io.specs.SinkChange.{sink_change, Puts, WritesPartly, HasFailed};
 ghost use Rattle.alpha_image.specs.Parts.{pieces};
-ghost use Rattle.alpha_dis.specs.Taken.{Takes, Stops};
+ghost use Rattle.alpha_dis.specs.SinkEffect.{Takes, SinkFails};
 ghost use Rattle.alpha_dis.specs.Listing.{text, heading, code_line, byte_line, rows, piece_of, piece_lines, listing};
 
 use crate::block::Block;
@@ -35,9 +35,9 @@ impl From<Failed> for ListFault {
 /// `Sink` where the sink failed. Then a prefix of the listing was written.
 pub fn list<K: Sink>(image: &Image, out: &mut K) -> Result<(), ListFault>
     ensures ok { OnOk result
-        (Puts (sunk K.Sink out.old out.new) (listing image.now)) }
-    ensures prefix { Partly (sunk K.Sink out.old out.new) (listing image.now) }
-    ensures cause { OnErr result (HasFailed (sunk K.Sink out.old out.new)) }
+        (Puts (sink_change K.Sink out.old out.new) (listing image.now)) }
+    ensures prefix { WritesPartly (sink_change K.Sink out.old out.new) (listing image.now) }
+    ensures cause { OnErr result (HasFailed (sink_change K.Sink out.old out.new)) }
 {
     let mut block = Block::new();
     push_all(&mut block, image, out)?;
@@ -48,9 +48,9 @@ pub fn list<K: Sink>(image: &Image, out: &mut K) -> Result<(), ListFault>
 // Appends the whole listing.
 #[tactic(auto, unfolding(crate::specs::Listing::listing, crate::specs::Listing::lines))]
 fn push_all<K: Sink>(block: &mut Block, image: &Image, out: &mut K) -> Result<(), Failed>
-    ensures ok { OnOk result (Takes (sunk K.Sink out.old out.new)
+    ensures ok { OnOk result (Takes (sink_change K.Sink out.old out.new)
         block.old block.new (listing image.now)) }
-    ensures refused { OnErr result (Stops (sunk K.Sink out.old out.new)
+    ensures refused { OnErr result (SinkFails (sink_change K.Sink out.old out.new)
         (block.old ++ listing image.now)) }
 {
     push_start(block, image, out)?;
@@ -60,9 +60,9 @@ fn push_all<K: Sink>(block: &mut Block, image: &Image, out: &mut K) -> Result<()
 
 // Appends the lines before the code.
 fn push_start<K: Sink>(block: &mut Block, image: &Image, out: &mut K) -> Result<(), Failed>
-    ensures ok { OnOk result (Takes (sunk K.Sink out.old out.new)
+    ensures ok { OnOk result (Takes (sink_change K.Sink out.old out.new)
         block.old block.new (text (heading image.now))) }
-    ensures refused { OnErr result (Stops (sunk K.Sink out.old out.new) block.old) }
+    ensures refused { OnErr result (SinkFails (sink_change K.Sink out.old out.new) block.old) }
 {
     block.make_room(out)?;
     push_heading(block, image);
@@ -71,9 +71,9 @@ fn push_start<K: Sink>(block: &mut Block, image: &Image, out: &mut K) -> Result<
 
 // Appends the lines of the code words.
 fn push_code<K: Sink>(block: &mut Block, image: &Image, out: &mut K) -> Result<(), Failed>
-    ensures ok { OnOk result (Takes (sunk K.Sink out.old out.new)
+    ensures ok { OnOk result (Takes (sink_change K.Sink out.old out.new)
         block.old block.new (text (map code_line image.now.words))) }
-    ensures refused { OnErr result (Stops (sunk K.Sink out.old out.new)
+    ensures refused { OnErr result (SinkFails (sink_change K.Sink out.old out.new)
         (block.old ++ text (map code_line image.now.words))) }
 {
     for place in 0..image.words() {
@@ -86,10 +86,10 @@ fn push_code<K: Sink>(block: &mut Block, image: &Image, out: &mut K) -> Result<(
 // Appends the lines of the segments.
 fn push_data<K: Sink>(block: &mut Block, image: &Image, out: &mut K) -> Result<(), Failed>
     ensures ok { let lines = flat_map (piece_lines image.now.version) (pieces image.now) in
-        OnOk result (Takes (sunk K.Sink out.old out.new)
+        OnOk result (Takes (sink_change K.Sink out.old out.new)
         block.old block.new (text lines)) }
     ensures refused { let lines = flat_map (piece_lines image.now.version) (pieces image.now) in
-        OnErr result (Stops (sunk K.Sink out.old out.new) (block.old ++ text lines)) }
+        OnErr result (SinkFails (sink_change K.Sink out.old out.new) (block.old ++ text lines)) }
 {
     for n in 0..image.segments() {
         let (segment, bytes) = segment_at(image, n);
@@ -118,10 +118,10 @@ fn push_segment<K: Sink>(
     out: &mut K,
 ) -> Result<(), Failed>
     ensures ok { let piece = piece_of segment.now bytes.now in
-        OnOk result (Takes (sunk K.Sink out.old out.new)
+        OnOk result (Takes (sink_change K.Sink out.old out.new)
         block.old block.new (text (piece_lines image.now.version piece))) }
     ensures refused { let piece = piece_of segment.now bytes.now in
-        OnErr result (Stops (sunk K.Sink out.old out.new)
+        OnErr result (SinkFails (sink_change K.Sink out.old out.new)
         (block.old ++ text (piece_lines image.now.version piece))) }
 {
     block.make_room(out)?;
@@ -134,9 +134,9 @@ fn push_segment<K: Sink>(
 
 // Appends the lines of data bytes.
 fn push_rows<K: Sink>(block: &mut Block, bytes: &[u8], out: &mut K) -> Result<(), Failed>
-    ensures ok { OnOk result (Takes (sunk K.Sink out.old out.new)
+    ensures ok { OnOk result (Takes (sink_change K.Sink out.old out.new)
         block.old block.new (text (map byte_line (rows bytes.now)))) }
-    ensures refused { OnErr result (Stops (sunk K.Sink out.old out.new)
+    ensures refused { OnErr result (SinkFails (sink_change K.Sink out.old out.new)
         (block.old ++ text (map byte_line (rows bytes.now)))) }
 {
     let mut rest = bytes;

@@ -5,7 +5,8 @@ use Rattle.alpha_table.specs.Words.{class_in}
 use Rattle.alpha_table.specs.Code.{class_at, kind, trap_rc}
 use Rattle.alpha_table.specs.Uses.{sets, uses, access}
 use Rattle.alpha_shadow.specs.declared.broken.Condition.{Condition}
-use Rattle.alpha_shadow.specs.declared.broken.Condition.TheVariants.{ZeroDestination, SourceLost, SameDestination, WildBase, LoadThenStore, Locked, Turn, Open, Long}
+use Rattle.alpha_shadow.specs.declared.broken.Condition.TheVariants.{ZeroDestination, SourceLost, SameDestination}
+use Rattle.alpha_shadow.specs.declared.broken.Condition.TheVariants.{WildBase, LoadThenStore, Locked, Turn, Open, Long}
 use Rattle.alpha_shadow.specs.Code.{kind_at, destination_at, access_at, sets_at, SetIn, ExposedIn}
 use Rattle.alpha_shadow.specs.Broken.{Holds, IsBroken}
 
@@ -17,7 +18,8 @@ pub record LooksAlike (code : List ℕ) (at : ℕ) (other : List ℕ) (there : �
   pub same_access : access_at code at ≡ access_at other there
   pub same_uses : (r : ℕ) → uses (class_at code at) r ≡ uses (class_at other there) r
 
-pub same_class : (code : List ℕ) (at : ℕ) (other : List ℕ) (there : ℕ) → class_at code at ≡ class_at other there → LooksAlike code at other there
+pub same_class : (code : List ℕ) (at : ℕ) (other : List ℕ) (there : ℕ) → class_at code at ≡ class_at other there
+    → LooksAlike code at other there
 same_class code at other there e = record {
   same_kind = ap kind e;
   same_destination = ap trap_rc e;
@@ -26,9 +28,11 @@ same_class code at other there e = record {
   same_uses = λ r. ap (λ c. uses c r) e;
 }
 
-pub same_word : (code : List ℕ) (at : ℕ) (other : List ℕ) (there : ℕ) → slice_get code at ≡ slice_get other there → LooksAlike code at other there
+pub LooksAlike-same_word : (code : List ℕ) (at : ℕ) (other : List ℕ) (there : ℕ)
+    → slice_get code at ≡ slice_get other there
+    → LooksAlike code at other there
 unfolding class_at
-same_word code at other there e = same_class code at other there (ap (option_and_then class_in) e)
+LooksAlike-same_word code at other there e = same_class code at other there (ap (option_and_then class_in) e)
 
 -- The words from p up to a place and those of other code from q up to a place there look alike, and both places are
 -- places of the code, or its ends.
@@ -39,17 +43,29 @@ pub record Stretch (code : List ℕ) (p at : ℕ) (other : List ℕ) (q there : 
   pub ends : at ≡ length code → there ≡ length other
 
 module _ (code : List ℕ) (p at : ℕ) (other : List ℕ) (q there : ℕ) (s : Stretch code p at other q there) where
-  set_along : (from to from2 to2 r : ℕ) → p ≤ from → to ≤ at + 1 → from2 + p ≡ from + q → to2 + p ≡ to + q → SetIn code from to r → SetIn other from2 to2 r
+  set_along : (from to from2 to2 r : ℕ) → p ≤ from → to ≤ at + 1 → from2 + p ≡ from + q → to2 + p ≡ to + q
+      → SetIn code from to r → SetIn other from2 to2 r
   set_along from to from2 to2 r above below e f h =
       let j : ℕ = h.place + q - p in
       let g : j + p ≡ h.place + q = omega arith in
-      record { place = j; above = omega arith; below = omega arith; sets = sym (s.alike h.place j (omega arith) (omega arith) g).same_set ∙ h.sets }
+      record {
+        place = j;
+        above = omega arith;
+        below = omega arith;
+        sets = sym (s.alike h.place j (omega arith) (omega arith) g).same_set ∙ h.sets;
+      }
 
-  set_back : (from to from2 to2 r : ℕ) → p ≤ from → to ≤ at + 1 → from2 + p ≡ from + q → to2 + p ≡ to + q → SetIn other from2 to2 r → SetIn code from to r
+  set_back : (from to from2 to2 r : ℕ) → p ≤ from → to ≤ at + 1 → from2 + p ≡ from + q → to2 + p ≡ to + q
+      → SetIn other from2 to2 r → SetIn code from to r
   set_back from to from2 to2 r above below e f h =
       let k : ℕ = h.place + p - q in
       let g : h.place + p ≡ k + q = omega arith in
-      record { place = k; above = omega arith; below = omega arith; sets = (s.alike k h.place (omega arith) (omega arith) g).same_set ∙ h.sets }
+      record {
+        place = k;
+        above = omega arith;
+        below = omega arith;
+        sets = (s.alike k h.place (omega arith) (omega arith) g).same_set ∙ h.sets;
+      }
 
   exposed_along : (r : ℕ) → ExposedIn code p (at + 1) r → ExposedIn other q (there + 1) r
   exposed_along r h =
@@ -92,7 +108,13 @@ module _ (code : List ℕ) (p at : ℕ) (other : List ℕ) (q there : ℕ) (s : 
         j,
         omega arith,
         omega arith,
-        (h.3.0, (h.3.1.0, (sym v.same_kind ∙ m.0, sym v.same_access ∙ m.1, sym w.same_kind ∙ m.2, sym w.same_access ∙ m.3, m.4))),
+        (
+          h.3.0,
+          (
+            h.3.1.0,
+            (sym v.same_kind ∙ m.0, sym v.same_access ∙ m.1, sym w.same_kind ∙ m.2, sym w.same_access ∙ m.3, m.4),
+          ),
+        ),
       )
   holds_along o Locked h = sym (s.alike at there (omega arith) (omega arith) s.shift).same_kind ∙ h
   holds_along o Turn h = sym (s.alike at there (omega arith) (omega arith) s.shift).same_kind ∙ h

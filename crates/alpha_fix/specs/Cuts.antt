@@ -72,4 +72,5 @@ NoneFrom code from = (trigger at : ℕ) (condition : Condition) → from ≤ tri
 pub record IsLeastFrom (code : List ℕ) (from : ℕ) (b : Broken) : Type 0 where
   pub since : from ≤ b.trigger
   pub broken : IsBroken code b.trigger b.at b.condition
-  pub least : (trigger at : ℕ) (condition : Condition) → from ≤ trigger → IsBroken code trigger at condition → NoLater b trigger at condition
+  pub least : (trigger at : ℕ) (condition : Condition) → from ≤ trigger → IsBroken code trigger at condition
+      → NoLater b trigger at condition

@@ -22,9 +22,9 @@ pub record IsLeastAlone (code : List ℕ) (b : Broken) : Type 0 where
       → (b.trigger < place) ⊎ ((b.trigger ≡ place) × (condition_number b.condition ≤ condition_number condition))
 
 -- why code has no cuts
-abbrev pub Stops : List ℕ → CutFault → Type 0
-Stops code (cut_faults.Unfixable b) = IsLeastAlone code b
-Stops code cut_faults.NoMemory = Unit {0}
+abbrev pub IsCutFault : List ℕ → CutFault → Type 0
+IsCutFault code (cut_faults.Unfixable b) = IsLeastAlone code b
+IsCutFault code cut_faults.NoMemory = Unit {0}
 
 -- a source has an image
 pub record HasImage (source : List ℕ) (image : Parts) : Type 0 where
@@ -50,10 +50,13 @@ pub record IsFixedSource (source text : List ℕ) : Type 0 where
 -- why a source has no fixed source
 abbrev pub Refuses : List ℕ → FixFault → Type 0
 Refuses source (Source fault) = assembled source ≡ Err fault
-Refuses source (Unfixable b base) = (image : Parts) × HasImage source image × IsLeastAlone image.words b × (base ≡ image.code_base)
-Refuses source (Fixed line) = (image : Parts) × (cuts : List ℕ) × HasCuts source image cuts × (cuts ≢ []) × (fixed_line source ≡ Some line)
+Refuses source (Unfixable b base) =
+    (image : Parts) × HasImage source image × IsLeastAlone image.words b × (base ≡ image.code_base)
+Refuses source (Fixed line) =
+    (image : Parts) × (cuts : List ℕ) × HasCuts source image cuts × (cuts ≢ []) × (fixed_line source ≡ Some line)
 Refuses source (Far fault) =
-    (image : Parts) × (cuts : List ℕ) × HasCuts source image cuts × (cuts ≢ []) × (fixed_line source ≡ None) × (assembled (fixed_source source cuts) ≡ Err fault)
+    (image : Parts) × (cuts : List ℕ) × HasCuts source image cuts × (cuts ≢ []) × (fixed_line source ≡ None)
+    × (assembled (fixed_source source cuts) ≡ Err fault)
 Refuses source NoMemory = Unit {0}
 
 -- why a text has no image

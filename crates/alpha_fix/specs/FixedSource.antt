@@ -1,7 +1,8 @@
 -- A source with a barrier at each of some places of its code.
-use Rattle.std.specs.Prelude.{ℕ, ◌+◌, ◌==◌, ◌&&◌, ◌++◌, Bool, true, false, List, [], ◌∷◌, codes, length, filter, is_some, if◌then◌else◌}
+use Rattle.std.specs.Prelude.{ℕ, ◌+◌, ◌==◌, ◌&&◌, ◌++◌, Bool, true, false, List, [], ◌∷◌, codes, length, filter}
+use Rattle.std.specs.Prelude.{is_some, if◌then◌else◌}
 use Rattle.std.specs.List.{flat_map, list_any}
-use Rattle.alpha_text.specs.Reading.{LineSaid}
+use Rattle.alpha_text.specs.Reading.{LineStmt}
 use Rattle.alpha_asm.specs.Statement.{coded}
 use Rattle.alpha_asm.specs.SourceLines.{SourceLine, ended, line_bytes, with_feed, source_lines, line_item}
 
@@ -14,7 +15,7 @@ abbrev pub trapb_line : SourceLine
 trapb_line = ended (codes "trapb")
 
 -- whether an item is an instruction
-abbrev pub has_insn : LineSaid → Bool
+abbrev pub has_insn : LineStmt → Bool
 has_insn i = is_some (coded i.statement)
 
 -- whether a line has the word of an instruction
@@ -41,7 +42,8 @@ abbrev pub fixed_lines : (ℕ → Bool) → ℕ → ℕ → List SourceLine → 
 fixed_lines cut words place [] = []
 fixed_lines cut words place (line ∷ lines) =
     if has_word line
-    then bar_if (cut place) trapb_line ++ (then_bar (place + 1 == words && cut words) line ++ fixed_lines cut words (place + 1) lines)
+    then bar_if (cut place) trapb_line
+    ++ (then_bar (place + 1 == words && cut words) line ++ fixed_lines cut words (place + 1) lines)
     else line ∷ fixed_lines cut words place lines
 
 -- the source with a barrier at each cut

@@ -1,7 +1,8 @@
-ghost use Rattle.std.specs.Prelude.{◌≡◌, ◌+◌, ◌<◌, ◌≤◌, ◌^◌, ◌++◌, ◌∷◌, ◌==◌, ◌&&◌, ℕ, List, [], length, is_some, None, OnOk, IfOk, IfErr};
+ghost use Rattle.std.specs.Prelude.{◌≡◌, ◌+◌, ◌<◌, ◌≤◌, ◌^◌, ◌++◌, ◌∷◌, ◌==◌, ◌&&◌, ℕ, List, [], length, is_some, None};
+ghost use Rattle.std.specs.Prelude.{OnOk, IfOk, IfErr};
 ghost use Rattle.std.specs.List.{flat_map};
 ghost use Rattle.std.specs.Str.Lines.{lines};
-ghost use Rattle.alpha_text.specs.Statements.{said};
+ghost use Rattle.alpha_text.specs.Statements.{stmt_of};
 ghost use Rattle.alpha_asm.specs.declared.line_kind.LineKind.{LineKind as LineKindOf};
 ghost use Rattle.alpha_asm.specs.LineKinds.{line_kind};
 ghost use Rattle.alpha_asm.specs.Statement.{coded};
@@ -10,11 +11,11 @@ ghost use Rattle.alpha_asm.specs.declared.kind.SourceKind.TheVariants as source_
 ghost use Rattle.alpha_fix.specs.Cuts.{Rise};
 ghost use Rattle.alpha_asm.specs.SourceLines.{SourceLine, Is, line_bytes};
 ghost use Rattle.alpha_fix.specs.FixedSource.{is_cut, has_insn, word_count, trapb_line, bar_if, then_bar, fixed_source};
-ghost use Rattle.alpha_fix.specs.FixedLines.{items_of, is_fixed, names_code, code_base, fixed_line};
+ghost use Rattle.alpha_fix.specs.FixedLines.{items_of, depends_on_position, names_code, code_base, fixed_line};
 ghost use Rattle.alpha_fix.specs.Lines.{role, Hinders};
 
 use crate::FixFault;
-use crate::fixed_line::is_fixed;
+use crate::fixed_line::depends_on_position;
 use alpha_asm::{Line, LineKind, Symbols};
 use alpha_text::{Statement, read_line};
 use std::alloc::{AllocError, Global};
@@ -24,7 +25,7 @@ const TRAPB: &[u8] = b"trapb\n";
 
 // Whether a statement is an instruction.
 fn is_insn(statement: &Statement<'_>) -> bool
-    ensures { result ≡ is_some (coded (said statement.now)) }
+    ensures { result ≡ is_some (coded (stmt_of statement.now)) }
 {
     matches!(
         *statement,
@@ -46,10 +47,10 @@ enum Role {
 
 // What a line with a statement is.
 fn role_by<'a>(symbols: &Symbols<'a>, base: u64, statement: &Statement<'a>) -> Role
-    ensures { let s = said statement.now in
-        result ≡ role (is_fixed (names_code (items_of symbols.now)) base s) (is_some (coded s)) }
+    ensures { let s = stmt_of statement.now in
+        result ≡ role (depends_on_position (names_code (items_of symbols.now)) base s) (is_some (coded s)) }
 {
-    if is_fixed(symbols, base, statement) {
+    if depends_on_position(symbols, base, statement) {
         Role::FixedLine
     } else if is_insn(statement) {
         Role::Insn
@@ -62,7 +63,7 @@ fn role_by<'a>(symbols: &Symbols<'a>, base: u64, statement: &Statement<'a>) -> R
 fn role_of<'a>(symbols: &Symbols<'a>, base: u64, text: &'a [u8]) -> Role
     requires { length text.now ≤ 1024 }
     ensures { let i = item_at text.now in
-        result ≡ role (is_fixed (names_code (items_of symbols.now)) base i.statement) (has_insn i) }
+        result ≡ role (depends_on_position (names_code (items_of symbols.now)) base i.statement) (has_insn i) }
 {
     match read_line(text) {
         Ok(item) => role_by(symbols, base, &item.statement),
@@ -75,12 +76,12 @@ fn role_here<'a>(kind: LineKind, symbols: &Symbols<'a>, base: u64, text: &'a [u8
     requires short { length text.now ≤ 1024 }
     requires kind { kind ≡ line_kind (item_at text.now).statement }
     ensures { let i = item_at text.now in
-        result ≡ role (is_fixed (names_code (items_of symbols.now)) base i.statement) (has_insn i) }
+        result ≡ role (depends_on_position (names_code (items_of symbols.now)) base i.statement) (has_insn i) }
 {
     match kind {
         LineKind::Other => Role::Other,
         LineKind::Insn => Role::Insn,
-        LineKind::Bound => role_of(symbols, base, text),
+        LineKind::PositionDependent => role_of(symbols, base, text),
     }
 }
 
@@ -91,7 +92,7 @@ fn first_kind(kinds: &[LineKind]) -> (LineKind, &[LineKind])
 {
     match kinds {
         [kind, more @ ..] => (*kind, more),
-        [] => (LineKind::Bound, kinds),
+        [] => (LineKind::PositionDependent, kinds),
     }
 }
 
@@ -132,17 +133,17 @@ fn put_line(
     text: &mut Vec<u8>,
     line: &Line<'_>,
     before: bool,
-    behind: bool,
+    after: bool,
 ) -> Result<(), AllocError>
     ensures { OnOk result ((l : SourceLine) → Is l line.now →
         text.new.items ≡ text.old.items
-        ++ flat_map line_bytes (bar_if before trapb_line ++ then_bar behind l)) }
+        ++ flat_map line_bytes (bar_if before trapb_line ++ then_bar after l)) }
 {
     if before {
         text.extend_from_slice(TRAPB)?;
     }
     text.extend_from_slice(line.bytes)?;
-    if behind {
+    if after {
         if !line.ended {
             text.push(b'\n')?;
         }

@@ -1,6 +1,6 @@
 ghost use Rattle.std.specs.Prelude.{◌≤◌, length, MatchOption, OnOk, IfOk, IfErr};
 ghost use Rattle.alpha_fix.specs.Cuts.{AreCuts, NoneAlone, NoneFrom, IsLeastFrom};
-ghost use Rattle.alpha_fix.specs.Fix.{Stops};
+ghost use Rattle.alpha_fix.specs.Fix.{IsCutFault};
 
 use crate::CutFault;
 use alpha_image::Image;
@@ -9,7 +9,7 @@ use alpha_verdict::code_of;
 use std::alloc::Global;
 
 // The least broken place for triggers from a place on.
-fn broken_from(checker: &mut Checker, image: &Image, from: u32) -> Option<Broken>
+fn first_broken_from(checker: &mut Checker, image: &Image, from: u32) -> Option<Broken>
     requires { from ≤ length image.now.words }
     ensures { MatchOption result (NoneFrom image.now.words from)
         (IsLeastFrom image.now.words from) }
@@ -36,12 +36,12 @@ fn broken_from(checker: &mut Checker, image: &Image, from: u32) -> Option<Broken
 pub fn cuts_of(alloc: Global, image: &Image) -> Result<Vec<u32>, CutFault>
     ensures ok { IfOk result (λ cuts. AreCuts image.now.words cuts.items) }
     ensures sound { OnOk result (NoneAlone image.now.words) }
-    ensures refused { IfErr result (Stops image.now.words) }
+    ensures refused { IfErr result (IsCutFault image.now.words) }
 {
     let mut cuts = Vec::new(alloc);
     let mut checker = Checker::new();
     let mut from = 0;
-    while let Some(broken) = broken_from(&mut checker, image, from) {
+    while let Some(broken) = first_broken_from(&mut checker, image, from) {
         if broken.at == broken.trigger {
             return Err(CutFault::Unfixable(broken));
         }

@@ -76,11 +76,11 @@ fn fix_at<'a>(
     ensures refused { IfErr result (Refuses source.now) }
 {
     let text = with_barriers(alloc, symbols, source, base, words, cuts)?;
-    checked(alloc, text)
+    require_image(alloc, text)
 }
 
 // Gives a text back where it has an image, and refuses it as far where it has none.
-fn checked(alloc: Global, text: Vec<u8>) -> Result<Vec<u8>, FixFault>
+fn require_image(alloc: Global, text: Vec<u8>) -> Result<Vec<u8>, FixFault>
     requires { length text.items < 2 ^ 32 }
     ensures ok { IfOk result (λ same. same.items ≡ text.items) }
     ensures image { OnOk result ((image : Parts) × HasImage text.items image) }

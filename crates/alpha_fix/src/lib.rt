@@ -21,9 +21,10 @@
 //! builds the text, and `inserter.rt` puts the steps together.
 //!
 //! `proofs/Alike.antt` says that a shadow is broken by the columns of its words, wherever it stands;
-//! `Barring.antt`, `Walking.antt` and `Existing.antt` have the cuts. `FixedItems.antt` has the items of a
-//! text's lines, `Cores.antt` where these stand, `Steady.antt` what a verdict needs of a word,
-//! `Transfer.antt` and `Marks.antt` the words of the text, `Sources.antt` and `FixedSources.antt` the laws. `Values.antt`, `Building.antt` and `Answering.antt` follow the code.
+//! `BarredCode.antt`, `CutSteps.antt` and `CutExistence.antt` have the cuts. `FixedItems.antt` has the items of a
+//! text's lines, `Cores.antt` where these stand, `SteadyClasses.antt` what a verdict needs of a word,
+//! `Transfer.antt` and `Marks.antt` the words of the text, `Sources.antt` and `FixedSources.antt` the laws.
+//! `Values.antt`, `FixedText.antt` and `FixAnswers.antt` follow the code.
 #![tactic(auto)]
 
 mod barriers;

@@ -1,5 +1,7 @@
 -- Segments whose bases rise share no address where each begins behind the end of all before it.
-use Rattle.std.proofs.Common.{◌≡◌, ℕ, suc, ◌+◌, ◌-◌, ◌<◌, ◌≤◌, Bool, true, false, IsTrue, ◌&&◌, ◌||◌, ◌⊎◌, eqb, leb, List, [], ◌∷◌, length, map, get_or, drop, take, inl, inr, refl, sym, ap, subst, ◌∙◌, add-one, arith}
+use Rattle.std.proofs.Common.{◌≡◌, ℕ, suc, ◌+◌, ◌-◌, ◌<◌, ◌≤◌, Bool, true, false, IsTrue, ◌&&◌, ◌||◌, ◌⊎◌, eqb, leb}
+use Rattle.std.proofs.Common.{List, [], ◌∷◌, length, map, get_or, drop, take, inl, inr, refl, sym, ap, subst, ◌∙◌}
+use Rattle.std.proofs.Common.{add-one, arith}
 use Rattle.std.specs.Prelude.{max}
 use Rattle.std.specs.List.{All, list_all}
 use Rattle.std.proofs.lemmas.Bool.{cases_lt}
@@ -22,19 +24,22 @@ abbrev pub nowhere : Segment
 nowhere = record { base = 0; filled = 0; zeroed = 0 }
 
 -- the segment begins there or above, or is empty
-abbrev pub clears : ℕ → Segment → Bool
-clears end s = eqb (size_of_segment s) 0 || leb end s.base
+abbrev pub begins_above : ℕ → Segment → Bool
+begins_above end s = eqb (size_of_segment s) 0 || leb end s.base
 
 -- segments that begin behind an end, and share no address
-abbrev pub follow : ℕ → List Segment → Bool
-follow end segments = list_all (clears end) segments && all_apart (map segment_region segments)
+abbrev pub are_above : ℕ → List Segment → Bool
+are_above end segments = list_all (begins_above end) segments && all_apart (map segment_region segments)
 
-pub follow-zero : (segments : List Segment) → follow 0 segments ≡ all_apart (map segment_region segments)
-follow-zero segments =
-    let all : list_all (clears 0) segments ≡ true = list_all-from_AllPass (clears 0) segments (λ k d h. grind (arith, nat_tests)) in
+pub are_above-zero : (segments : List Segment) → are_above 0 segments ≡ all_apart (map segment_region segments)
+are_above-zero segments =
+    let all : list_all (begins_above 0) segments ≡ true =
+    list_all-from_AllPass (begins_above 0) segments (λ k d h. grind (arith, nat_tests)) in
     rw all refl
 
-clears_both : (end : ℕ) (s t : Segment) → s.base < t.base → (clears end t && are_apart (segment_region s) (segment_region t)) ≡ clears (max end (s.base + size_of_segment s)) t
+clears_both : (end : ℕ) (s t : Segment) → s.base < t.base
+    → (begins_above end t && are_apart (segment_region s) (segment_region t))
+    ≡ begins_above (max end (s.base + size_of_segment s)) t
 unfolding are_apart
 clears_both end s t above = grind (arith, nat_tests)
 
@@ -44,64 +49,86 @@ regroup true false true y = refl
 regroup true false false y = refl
 regroup false b x y = refl
 
-all_clear : (end : ℕ) (s : Segment) (rest : List Segment) → All (λ t. s.base < t.base) rest → (list_all (clears end) rest && list_all (are_apart (segment_region s)) (map segment_region rest)) ≡ list_all (clears (max end (s.base + size_of_segment s))) rest
+all_clear : (end : ℕ) (s : Segment) (rest : List Segment) → All (λ t. s.base < t.base) rest
+    → (list_all (begins_above end) rest && list_all (are_apart (segment_region s)) (map segment_region rest))
+    ≡ list_all (begins_above (max end (s.base + size_of_segment s))) rest
 all_clear end s [] above = refl
 all_clear end s (t ∷ rest) above =
-    regroup (clears end t) (are_apart (segment_region s) (segment_region t)) (list_all (clears end) rest) (list_all (are_apart (segment_region s)) (map segment_region rest))
-    ∙ (ap (λ (b : Bool). b && (list_all (clears end) rest && list_all (are_apart (segment_region s)) (map segment_region rest))) (clears_both end s t (All-head (λ (t : Segment). s.base < t.base) t rest above))
-    ∙ ap (λ (b : Bool). clears (max end (s.base + size_of_segment s)) t && b) (all_clear end s rest (All-tail (λ (t : Segment). s.base < t.base) t rest above)))
+    regroup (begins_above end t) (are_apart (segment_region s) (segment_region t)) (list_all (begins_above end) rest)
+    (list_all (are_apart (segment_region s)) (map segment_region rest))
+    ∙ (ap (λ (b : Bool). b
+    && (list_all (begins_above end) rest && list_all (are_apart (segment_region s)) (map segment_region rest)))
+    (clears_both end s t (All-head (λ (t : Segment). s.base < t.base) t rest above))
+    ∙ ap (λ (b : Bool). begins_above (max end (s.base + size_of_segment s)) t && b)
+    (all_clear end s rest (All-tail (λ (t : Segment). s.base < t.base) t rest above)))
 
 and_assoc : (a b c : Bool) → (a && (b && c)) ≡ ((a && b) && c)
 and_assoc true b c = refl
 and_assoc false b c = refl
 
 -- one segment on
-follow-cons : (end : ℕ) (s : Segment) (rest : List Segment) → All (λ t. s.base < t.base) rest → clears end s ≡ true → follow end (s ∷ rest) ≡ follow (max end (s.base + size_of_segment s)) rest
-follow-cons end s rest above clear =
-    rw clear (and_assoc (list_all (clears end) rest) (list_all (are_apart (segment_region s)) (map segment_region rest)) (all_apart (map segment_region rest))
+are_above-cons : (end : ℕ) (s : Segment) (rest : List Segment) → All (λ t. s.base < t.base) rest
+    → begins_above end s ≡ true
+    → are_above end (s ∷ rest) ≡ are_above (max end (s.base + size_of_segment s)) rest
+are_above-cons end s rest above clear =
+    rw clear
+    (and_assoc (list_all (begins_above end) rest) (list_all (are_apart (segment_region s)) (map segment_region rest))
+    (all_apart (map segment_region rest))
     ∙ ap (λ (b : Bool). b && all_apart (map segment_region rest)) (all_clear end s rest above))
 
 -- the bases behind a segment are above its own
-pub bases_above : (segments : List Segment) (i : ℕ) (d : Segment) → IsTrue (rise (map (λ s. s.base) segments)) → i < length segments → All (λ t. (get_or segments i d).base < t.base) (drop (suc i) segments)
+pub bases_above : (segments : List Segment) (i : ℕ) (d : Segment) → IsTrue (rise (map (λ s. s.base) segments))
+    → i < length segments → All (λ t. (get_or segments i d).base < t.base) (drop (suc i) segments)
 bases_above segments i d up within k e h =
     let bases = map (λ (s : Segment). s.base) segments in
     let inside : suc i + k < length segments = omega (arith, h, length-drop (suc i) segments) in
     let pairs = AllPairs-from_increasing bases (rise-increasing bases up) in
-    let below : get_or bases i 0 < get_or bases (suc i + k) 0 = pairs i (suc i + k) 0 (omega arith) (omega (arith, length-map segments (λ (s : Segment). s.base))) in
+    let below : get_or bases i 0 < get_or bases (suc i + k) 0 =
+    pairs i (suc i + k) 0 (omega arith) (omega (arith, length-map segments (λ (s : Segment). s.base))) in
     let one = get_or-map (λ (s : Segment). s.base) segments i d 0 within in
     let two = get_or-map (λ (s : Segment). s.base) segments (suc i + k) e 0 inside in
     let at : get_or (drop (suc i) segments) k e ≡ get_or segments (suc i + k) e = get_or-drop (suc i) segments k e in
     rw at (rw (one, two) at below)
 
 -- the step of the loop over segments
-pub follow_more : (segments : List Segment) (i end end' : ℕ) (d : Segment) → IsTrue (rise (map (λ s. s.base) segments)) → i < length segments
+pub follow_more : (segments : List Segment) (i end end' : ℕ) (d : Segment) → IsTrue (rise (map (λ s. s.base) segments))
+    → i < length segments
     → (size_of_segment (get_or segments i d) ≡ 0) ⊎ (end ≤ (get_or segments i d).base)
     → end' ≡ max end ((get_or segments i d).base + size_of_segment (get_or segments i d))
-    → follow end (drop i segments) ≡ follow end' (drop (i + 1) segments)
+    → are_above end (drop i segments) ≡ are_above end' (drop (i + 1) segments)
 follow_more segments i end end' d up within clear e =
     let s = get_or segments i d in
-    let clears : clears end s ≡ true = grind (arith, nat_tests) in
-    rw (drop-cons segments i d within, add-one, e) (follow-cons end s (drop (suc i) segments) (bases_above segments i d up within) clears)
+    let clears : begins_above end s ≡ true = grind (arith, nat_tests) in
+    rw (drop-cons segments i d within, add-one, e)
+    (are_above-cons end s (drop (suc i) segments) (bases_above segments i d up within) clears)
 
 -- a region that meets a segment
-pub meets_one : (r : Region) (segments : List Segment) (i : ℕ) (d : Segment) → i < length segments → are_apart r (segment_region (get_or segments i d)) ≡ false → list_all (are_apart r) (map segment_region segments) ≡ false
+pub meets_one : (r : Region) (segments : List Segment) (i : ℕ) (d : Segment)
+    → i < length segments → are_apart r (segment_region (get_or segments i d)) ≡ false
+    → list_all (are_apart r) (map segment_region segments) ≡ false
 meets_one r segments i d within e =
-    list_all-map (are_apart r) segment_region segments ∙ list_all_at (λ (s : Segment). are_apart r (segment_region s)) segments i d within e
+    list_all-map (are_apart r) segment_region segments
+    ∙ list_all_at (λ (s : Segment). are_apart r (segment_region s)) segments i d within e
 
 -- a region that meets none
-pub meets_none : (r : Region) (segments : List Segment) (i : ℕ) → length segments ≤ i → list_all (λ s. are_apart r (segment_region s)) (take i segments) ≡ true → list_all (are_apart r) (map segment_region segments) ≡ true
+pub meets_none : (r : Region) (segments : List Segment) (i : ℕ) → length segments ≤ i
+    → list_all (λ s. are_apart r (segment_region s)) (take i segments) ≡ true
+    → list_all (are_apart r) (map segment_region segments) ≡ true
 meets_none r segments i past e =
-    list_all-map (are_apart r) segment_region segments ∙ (ap (λ (t : List Segment). list_all (λ s. are_apart r (segment_region s)) t) (sym (take_all i segments past)) ∙ e)
+    list_all-map (are_apart r) segment_region segments
+    ∙ (ap (λ (t : List Segment). list_all (λ s. are_apart r (segment_region s)) t) (sym (take_all i segments past)) ∙ e)
 
 abbrev bases : List Segment → List ℕ
 bases segments = map (λ s. s.base) segments
 
-base_at : (segments : List Segment) (n : ℕ) → n < length segments → get_or (bases segments) n 0 ≡ (get_or segments n nowhere).base
+base_at : (segments : List Segment) (n : ℕ) → n < length segments
+    → get_or (bases segments) n 0 ≡ (get_or segments n nowhere).base
 base_at segments n within = get_or-map (λ (s : Segment). s.base) segments n nowhere 0 within
 
 -- a base that is not above the one before it
-pub falls : (segments : List Segment) (n : ℕ) → 1 ≤ n → n < length segments → (get_or segments n nowhere).base ≤ (get_or segments (n - 1) nowhere).base → rise (bases segments) ≡ false
-falls segments n some within h =
+pub rise-not_falling : (segments : List Segment) (n : ℕ) → 1 ≤ n → n < length segments
+    → (get_or segments n nowhere).base ≤ (get_or segments (n - 1) nowhere).base → rise (bases segments) ≡ false
+rise-not_falling segments n some within h =
     let next : n - 1 + 1 ≡ n = omega arith in
     falls-rise (bases segments) (n - 1) (omega (arith, length-map segments (λ (s : Segment). s.base)))
     (rw (next, base_at segments n within, base_at segments (n - 1) (omega arith)) h)

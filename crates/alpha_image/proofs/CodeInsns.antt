@@ -1,5 +1,6 @@
 -- The instructions of code words, and the words of instructions.
-use Rattle.std.proofs.Common.{◌≡◌, ℕ, ◌+◌, ◌^◌, ◌<◌, ◌++◌, List, [], ◌∷◌, length, map, take, get_or, slice_get, Option, Some, None, refl, sym, ap, subst, ◌∙◌}
+use Rattle.std.proofs.Common.{◌≡◌, ℕ, ◌+◌, ◌^◌, ◌<◌, ◌++◌, List, [], ◌∷◌, length, map, take, get_or, slice_get, Option}
+use Rattle.std.proofs.Common.{Some, None, refl, sym, ap, subst, ◌∙◌}
 use Rattle.std.specs.List.{All}
 use Rattle.std.specs.Option.{option_map, IsSomeAnd}
 use Rattle.std.proofs.lemmas.List.{take_more, map-append}
@@ -11,7 +12,7 @@ use Rattle.alpha_table.specs.Row.{IsInsn}
 use Rattle.alpha_table.specs.Decoded.{decoded}
 use Rattle.alpha_table.specs.Encoded.{encoded}
 use Rattle.alpha_table.specs.Columns.{level_of}
-use Rattle.alpha_table.proofs.Decoding.{decoded-Row, Row-decoded, same_word, IsInsn-Row}
+use Rattle.alpha_table.proofs.DecodedInsns.{decoded-Row, Row-decoded, Row-one_word, IsInsn-Row}
 use Rattle.alpha_table.proofs.Words.{encoded-Row}
 use Rattle.alpha_table.proofs.Levels.{level_in-decoded}
 use Rattle.alpha_image.specs.Parts.{IsWithin, IsCodeWord}
@@ -26,10 +27,11 @@ encoded-decoded : (w : ℕ) (i : Form) → w < 2 ^ 32 → decoded w ≡ Some i �
 encoded-decoded w i small e =
     let row = Row-decoded w i e in
     let own = encoded-Row i (IsInsn-Row w i row) in
-    same_word w (encoded i) i small own.0 row own.1
+    Row-one_word w (encoded i) i small own.0 row own.1
 
 -- code words are those of their instructions
-pub words_of_insns : (level : Level) (words : List ℕ) (insns : List Form) → All (IsCodeWord level) words → map decoded words ≡ map Some insns → words ≡ map encoded insns
+pub words_of_insns : (level : Level) (words : List ℕ) (insns : List Form) → All (IsCodeWord level) words
+    → map decoded words ≡ map Some insns → words ≡ map encoded insns
 words_of_insns level [] [] all e = refl
 words_of_insns level [] (i ∷ insns) all e = absurd cc
 words_of_insns level (w ∷ words) [] all e = absurd cc
@@ -37,10 +39,12 @@ words_of_insns level (w ∷ words) (i ∷ insns) all e =
     let here : decoded w ≡ Some i = cc in
     let later : map decoded words ≡ map Some insns = cc in
     ap (λ (v : ℕ). v ∷ words) (encoded-decoded w i (All-head (IsCodeWord level) w words all).0 here)
-    ∙ ap (λ (ws : List ℕ). encoded i ∷ ws) (words_of_insns level words insns (All-tail (IsCodeWord level) w words all) later)
+    ∙ ap (λ (ws : List ℕ). encoded i ∷ ws)
+    (words_of_insns level words insns (All-tail (IsCodeWord level) w words all) later)
 
 -- one word more
-pub one_more : (words : List ℕ) (insns : List Form) (place : ℕ) (i : Form) → place < length words → map decoded (take place words) ≡ map Some insns → decoded (get_or words place 0) ≡ Some i
+pub one_more : (words : List ℕ) (insns : List Form) (place : ℕ) (i : Form) → place < length words
+    → map decoded (take place words) ≡ map Some insns → decoded (get_or words place 0) ≡ Some i
     → map decoded (take (place + 1) words) ≡ map Some (insns ++ i ∷ [])
 one_more words insns place i below e here =
     ap (map decoded) (take_more words place 0 below)
@@ -50,8 +54,11 @@ one_more words insns place i below e here =
     ∙ sym (map-append Some insns (i ∷ [])))))
 
 -- the word there is that of the instruction
-pub encoded_there : (insns : List Form) (place : ℕ) (i : Form) → slice_get insns place ≡ Some i → get_or (map encoded insns) place 0 ≡ encoded i
-encoded_there insns place i there = get_or_from_slice_get (map encoded insns) place (encoded i) 0 (slice_get-map encoded insns place ∙ ap (option_map encoded) there)
+pub encoded_there : (insns : List Form) (place : ℕ) (i : Form) → slice_get insns place ≡ Some i
+    → get_or (map encoded insns) place 0 ≡ encoded i
+encoded_there insns place i there =
+    get_or_from_slice_get (map encoded insns) place (encoded i) 0
+    (slice_get-map encoded insns place ∙ ap (option_map encoded) there)
 
 -- instructions of the table at a level have code words of that level
 pub code_words_of_insns : (level : Level) (insns : List Form) → All (IsCodeInsn level) insns
@@ -61,8 +68,12 @@ code_words_of_insns level (i ∷ insns) all =
     let here = All-head (IsCodeInsn level) i insns all in
     let later = code_words_of_insns level insns (All-tail (IsCodeInsn level) i insns all) in
     let own = decoded-encoded i here.0 in
-    let word : IsCodeWord level (encoded i) =
-    ((encoded-Row i here.0).0, (level_in-decoded level (encoded i)).1 (subst (λ (o : Option Form). IsSomeAnd o (λ j. IsWithin (level_of j) level)) (sym own) here.1)) in (
+    let word : IsCodeWord level (encoded i) = (
+      (encoded-Row i here.0).0,
+      (level_in-decoded level (encoded i)).1
+          (subst (λ (o : Option Form). IsSomeAnd o (λ j. IsWithin (level_of j) level)) (sym own) here.1),
+    ) in (
       All-cons (IsCodeWord level) (encoded i) (map encoded insns) word later.0,
-      ap (λ (o : Option Form). o ∷ map decoded (map encoded insns)) own ∙ ap (λ (os : List (Option Form)). Some i ∷ os) later.1,
+      ap (λ (o : Option Form). o ∷ map decoded (map encoded insns)) own
+          ∙ ap (λ (os : List (Option Form)). Some i ∷ os) later.1,
     )

@@ -5,7 +5,7 @@ pub mod Apart
 pub mod SegmentLists
 pub mod CodeWords
 pub mod CodeInsns
-pub mod Fronts
+pub mod ImageHeaders
 pub mod Spelled
 pub mod Form
 pub mod Pieces

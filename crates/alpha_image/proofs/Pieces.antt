@@ -1,5 +1,6 @@
 -- The shares that segments have of the data bytes.
-use Rattle.std.proofs.Common.{◌≡◌, ℕ, zero, suc, ◌+◌, ◌≤◌, List, [], ◌∷◌, ◌++◌, length, take, drop, Some, None, refl, sym, ap, ◌∙◌, arith}
+use Rattle.std.proofs.Common.{◌≡◌, ℕ, zero, suc, ◌+◌, ◌≤◌, List, [], ◌∷◌, ◌++◌, length, take, drop, Some, None, refl}
+use Rattle.std.proofs.Common.{sym, ap, ◌∙◌, arith}
 use Rattle.std.specs.Prelude.{slice_get}
 use Rattle.std.specs.List.{flat_map}
 use Rattle.std.specs.Option.{option_map}
@@ -17,8 +18,10 @@ filled_size-cons : (s : Segment) (rest : List Segment) → filled_size (s ∷ re
 filled_size-cons s rest = sum_by-cons (λ (t : Segment). t.filled) s rest
 
 -- the bytes of a segment stand behind those of the segments before it
-pub slice_get-pieces_of : (segments : List Segment) (bytes : List ℕ) (n : ℕ) (s : Segment) → slice_get segments n ≡ Some s
-    → option_map (λ piece. piece.bytes) (slice_get (pieces_of segments bytes) n) ≡ Some (take s.filled (drop (filled_size (take n segments)) bytes))
+pub slice_get-pieces_of : (segments : List Segment) (bytes : List ℕ) (n : ℕ) (s : Segment)
+    → slice_get segments n ≡ Some s
+    → option_map (λ piece. piece.bytes) (slice_get (pieces_of segments bytes) n)
+    ≡ Some (take s.filled (drop (filled_size (take n segments)) bytes))
 slice_get-pieces_of [] bytes n s e = absurd cc
 slice_get-pieces_of (t ∷ rest) bytes zero s e =
     let same : t ≡ s = cc in
@@ -28,23 +31,28 @@ slice_get-pieces_of (t ∷ rest) bytes (suc n) s e =
     ∙ (ap (λ (xs : List ℕ). Some (take s.filled xs)) (drop-drop (filled_size (take n rest)) t.filled bytes)
     ∙ ap (λ (k : ℕ). Some (take s.filled (drop k bytes))) (sym (filled_size-cons t (take n rest))))
 
-pub no_piece : (segments : List Segment) (bytes : List ℕ) (n : ℕ) → slice_get segments n ≡ None → option_map (λ piece. piece.bytes) (slice_get (pieces_of segments bytes) n) ≡ None
+pub no_piece : (segments : List Segment) (bytes : List ℕ) (n : ℕ) → slice_get segments n ≡ None
+    → option_map (λ piece. piece.bytes) (slice_get (pieces_of segments bytes) n) ≡ None
 no_piece [] bytes n e = refl
 no_piece (t ∷ rest) bytes zero e = absurd cc
 no_piece (t ∷ rest) bytes (suc n) e = no_piece rest (drop t.filled bytes) n e
 
 -- the shares of all segments are all data bytes
-pub flat_map-pieces_of : (segments : List Segment) (bytes : List ℕ) → length bytes ≡ filled_size segments → flat_map (λ piece. piece.bytes) (pieces_of segments bytes) ≡ bytes
+pub flat_map-pieces_of : (segments : List Segment) (bytes : List ℕ) → length bytes ≡ filled_size segments
+    → flat_map (λ piece. piece.bytes) (pieces_of segments bytes) ≡ bytes
 flat_map-pieces_of [] [] e = refl
 flat_map-pieces_of [] (b ∷ bytes) e = absurd (omega arith)
 flat_map-pieces_of (s ∷ rest) bytes e =
-    ap (λ (xs : List ℕ). take s.filled bytes ++ xs) (flat_map-pieces_of rest (drop s.filled bytes) (omega (arith, length-drop s.filled bytes, filled_size-cons s rest)))
+    ap (λ (xs : List ℕ). take s.filled bytes ++ xs)
+    (flat_map-pieces_of rest (drop s.filled bytes) (omega (arith, length-drop s.filled bytes, filled_size-cons s rest)))
     ∙ take-append-drop s.filled bytes
 
 -- the bytes of a segment lie within all data bytes
-pub piece_within : (segments : List Segment) (n : ℕ) (s : Segment) → slice_get segments n ≡ Some s → filled_size (take n segments) + s.filled ≤ filled_size segments
+pub piece_within : (segments : List Segment) (n : ℕ) (s : Segment) → slice_get segments n ≡ Some s
+    → filled_size (take n segments) + s.filled ≤ filled_size segments
 piece_within [] n s e = absurd cc
 piece_within (t ∷ rest) zero s e =
     let same : t ≡ s = cc in
     rw (sym same) (omega (arith, filled_size-cons t rest))
-piece_within (t ∷ rest) (suc n) s e = omega (arith, piece_within rest n s e, filled_size-cons t rest, filled_size-cons t (take n rest))
+piece_within (t ∷ rest) (suc n) s e =
+    omega (arith, piece_within rest n s e, filled_size-cons t rest, filled_size-cons t (take n rest))

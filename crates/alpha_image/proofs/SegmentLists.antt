@@ -1,5 +1,6 @@
 -- Lists of segments: how many data bytes they have, and their numbers in bytes.
-use Rattle.std.proofs.Common.{◌≡◌, ℕ, zero, suc, ◌+◌, ◌*◌, ◌≤◌, List, [], ◌∷◌, ◌++◌, length, take, drop, refl, ap, ◌∙◌, arith}
+use Rattle.std.proofs.Common.{◌≡◌, ℕ, zero, suc, ◌+◌, ◌*◌, ◌≤◌, List, [], ◌∷◌, ◌++◌, length, take, drop, refl, ap, ◌∙◌}
+use Rattle.std.proofs.Common.{arith}
 use Rattle.std.specs.Prelude.{sum_by}
 use Rattle.std.proofs.lemmas.List.{drop-drop}
 use Rattle.std.proofs.lemmas.List.Sums.{sum_by-le-sum_by, sum_by-take-le}
@@ -23,10 +24,14 @@ length-segments_in zero bytes = refl
 length-segments_in (suc n) bytes = ap suc (length-segments_in n (drop 16 bytes))
 
 -- one segment more
-pub segments_in-more : (n : ℕ) (bytes : List ℕ) → segments_in (n + 1) bytes ≡ segments_in n bytes ++ segment_in (drop (16 * n) bytes) ∷ []
+pub segments_in-more : (n : ℕ) (bytes : List ℕ)
+    → segments_in (n + 1) bytes ≡ segments_in n bytes ++ segment_in (drop (16 * n) bytes) ∷ []
 segments_in-more zero bytes = refl
 segments_in-more (suc n) bytes =
     let next : suc n + 1 ≡ suc (n + 1) = omega arith in
     let behind : 16 + 16 * n ≡ 16 * suc n = omega arith in
-    let at : drop (16 * n) (drop 16 bytes) ≡ drop (16 * suc n) bytes = drop-drop (16 * n) 16 bytes ∙ ap (λ (k : ℕ). drop k bytes) behind in
-    rw next (ap (λ (t : List Segment). segment_in bytes ∷ t) (segments_in-more n (drop 16 bytes)) ∙ ap (λ (t : List ℕ). segment_in bytes ∷ (segments_in n (drop 16 bytes) ++ segment_in t ∷ [])) at)
+    let at : drop (16 * n) (drop 16 bytes) ≡ drop (16 * suc n) bytes =
+    drop-drop (16 * n) 16 bytes ∙ ap (λ (k : ℕ). drop k bytes) behind in
+    rw next
+    (ap (λ (t : List Segment). segment_in bytes ∷ t) (segments_in-more n (drop 16 bytes))
+    ∙ ap (λ (t : List ℕ). segment_in bytes ∷ (segments_in n (drop 16 bytes) ++ segment_in t ∷ [])) at)

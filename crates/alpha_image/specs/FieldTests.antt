@@ -1,5 +1,6 @@
 -- The rules of an image's numbered fields as tests, and the least field that breaks its rule.
-use Rattle.std.specs.Prelude.{ℕ, ◌+◌, ◌*◌, ◌-◌, ◌%◌, ◌^◌, Bool, true, ◌==◌, ◌&&◌, ◌||◌, nat_le, nat_lt, List, [], ◌∷◌, length, map, sum_by, Option}
+use Rattle.std.specs.Prelude.{ℕ, ◌+◌, ◌*◌, ◌-◌, ◌%◌, ◌^◌, Bool, true, ◌==◌, ◌&&◌, ◌||◌, nat_le, nat_lt, List, [], ◌∷◌}
+use Rattle.std.specs.Prelude.{length, map, sum_by, Option}
 use Rattle.std.specs.List.{list_all}
 use Rattle.alpha_image.specs.declared.region.Region.{Region}
 use Rattle.alpha_image.specs.declared.segment.Segment.{Segment}

@@ -9,10 +9,11 @@ use Rattle.alpha_image.specs.PartsOf.{parts_with}
 
 -- the code words are those of the instructions, and the data bytes stand behind the front of the bytes
 abbrev pub parts_in : Inside → Parts
-parts_in i = parts_with i.header.version (header_numbers i.header) (map encoded i.insns.items) (drop i.data_at i.bytes.items)
+parts_in i =
+    parts_with i.header.version (header_numbers i.header) (map encoded i.insns.items) (drop i.data_at i.bytes.items)
 
--- The parts are a good image, the header has its numbers, and each word stands for its instruction. The data begins within
--- the bytes.
+-- The parts are a good image, the header has its numbers, and each word stands for its instruction. The data begins
+-- within the bytes.
 pub record IsWhole (i : Inside) : Type 0 where
   pub good : IsImage (parts_in i)
   pub numbers : numbers (parts_in i) ≡ header_numbers i.header

@@ -1,5 +1,6 @@
 -- The first fault of bytes that spell no image.
-use Rattle.std.specs.Prelude.{ℕ, ◌+◌, ◌*◌, ◌==◌, Bool, false, not, nat_eq, nat_le, List, [], ◌∷◌, length, slice_index, Option, Some, None, position}
+use Rattle.std.specs.Prelude.{ℕ, ◌+◌, ◌*◌, ◌==◌, Bool, false, not, nat_eq, nat_le, List, [], ◌∷◌, length, slice_index}
+use Rattle.std.specs.Prelude.{Option, Some, None, position}
 use Rattle.std.specs.List.{starts_with}
 use Rattle.std.specs.Option.{option_map, option_or}
 use Rattle.alpha_words.specs.declared.Level.{Level}
@@ -36,13 +37,13 @@ field_fault n = option_map Field (least_bad_field n)
 
 -- What is wrong at the front of bytes of a version, before its numbers can be read: too few bytes, another magic,
 -- or more segments than there can be.
-unfoldable pub front_fault : Version → List ℕ → Option ImageFault
-front_fault One bytes =
+unfoldable pub image_header_fault : Version → List ℕ → Option ImageFault
+image_header_fault One bytes =
     first_of
     (unless (nat_le 48 (length bytes)) (Short (length bytes))
     ∷ unless (starts_with nat_eq bytes (magic One)) Magic
     ∷ [])
-front_fault Two bytes =
+image_header_fault Two bytes =
     first_of
     (unless (nat_le 40 (length bytes)) (Short (length bytes))
     ∷ unless (nat_le (longword_at 36 bytes) 8) (Field 10)
@@ -54,7 +55,7 @@ unfoldable pub form_fault : List ℕ → Option ImageFault
 form_fault bytes =
     let wanted = size_of (version_of bytes) (numbers_of bytes) in
     first_of
-    (front_fault (version_of bytes) bytes
+    (image_header_fault (version_of bytes) bytes
     ∷ field_fault (numbers_of bytes)
     ∷ unless (length bytes == wanted) (Length (length bytes) wanted)
     ∷ [])

@@ -30,13 +30,13 @@ first_segment [] = record { base = 0; filled = 0; zeroed = 0 }
 first_segment (s ∷ rest) = s
 
 -- what stands before the code
-unfoldable pub front : Version → Numbers → List ℕ
-front One n =
+unfoldable pub image_header : Version → Numbers → List ℕ
+image_header One n =
     let s = first_segment n.segments in
     concat
     (magic One ∷ quadword n.code_base ∷ quadword s.base ∷ quadword n.entry
     ∷ longword n.words ∷ longword s.filled ∷ longword s.zeroed ∷ longword n.stack ∷ [])
-front Two n =
+image_header Two n =
     concat
     (magic Two ∷ quadword n.code_base ∷ quadword n.entry
     ∷ longword n.words ∷ longword n.stack ∷ longword n.level ∷ longword (length n.segments)

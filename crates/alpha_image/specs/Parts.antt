@@ -1,5 +1,6 @@
 -- What an image is made of, which images are good, and the one spelling of each.
-use Rattle.std.specs.Prelude.{◌≡◌, ◌++◌, drop, take, ℕ, ◌+◌, ◌*◌, ◌-◌, ◌/◌, ◌%◌, ◌^◌, ◌<◌, ◌≤◌, List, [], ◌∷◌, length, All, IsSomeAnd, Option, Some, None, ◌==◌, ◌&&◌, nat_le, nat_lt, if◌then◌else◌}
+use Rattle.std.specs.Prelude.{◌≡◌, ◌++◌, drop, take, ℕ, ◌+◌, ◌*◌, ◌-◌, ◌/◌, ◌%◌, ◌^◌, ◌<◌, ◌≤◌, List, [], ◌∷◌, length}
+use Rattle.std.specs.Prelude.{All, IsSomeAnd, Option, Some, None, ◌==◌, ◌&&◌, nat_le, nat_lt, if◌then◌else◌}
 use Rattle.std.specs.List.{flat_map}
 use Rattle.alpha_words.specs.declared.Level.{Level}
 use Rattle.alpha_words.specs.Levels.{level_number}
@@ -9,7 +10,7 @@ use Rattle.alpha_image.specs.declared.version.Version.{Version}
 use Rattle.alpha_image.specs.declared.version.Version.TheVariants.{One, Two}
 use Rattle.alpha_image.specs.Numbers.{Numbers}
 use Rattle.alpha_image.specs.Rules.{FieldsFit}
-use Rattle.alpha_image.specs.Layout.{longword, front, filled_size}
+use Rattle.alpha_image.specs.Layout.{longword, image_header, filled_size}
 
 -- The version, the level, addresses, how many stack bytes, the data segments, the code words, and the data bytes
 -- of all segments in order.
@@ -60,8 +61,8 @@ pub record IsImage (p : Parts) : Type 0 where
   pub filled : length p.bytes ≡ filled_size p.segments
 
 -- the front, the code words and the data bytes
-unfoldable pub spelling : Parts → List ℕ
-spelling p = front p.version (numbers p) ++ (flat_map longword p.words ++ p.bytes)
+unfoldable pub image_spelling : Parts → List ℕ
+image_spelling p = image_header p.version (numbers p) ++ (flat_map longword p.words ++ p.bytes)
 
 -- The place of the code word at an address: there is none at an address that is no multiple of 4 or
 -- lies outside the code.

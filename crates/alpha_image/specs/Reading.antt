@@ -63,22 +63,22 @@ abbrev pub numbered_level : ℕ → Level
 numbered_level n = if n == 2 then levels.Two else levels.One
 
 -- how many bytes stand before the code
-abbrev pub front_size : Version → Numbers → ℕ
-front_size One n = 48
-front_size Two n = 40 + 16 * length n.segments
+abbrev pub image_header_size : Version → Numbers → ℕ
+image_header_size One n = 48
+image_header_size Two n = 40 + 16 * length n.segments
 
 -- how many bytes an image has
 abbrev pub size_of : Version → Numbers → ℕ
-size_of version n = front_size version n + 4 * n.words + filled_size n.segments
+size_of version n = image_header_size version n + 4 * n.words + filled_size n.segments
 
 -- all that stands behind the front
-unfoldable pub behind_front : List ℕ → List ℕ
-behind_front bytes = drop (front_size (version_of bytes) (numbers_of bytes)) bytes
+unfoldable pub after_image_header : List ℕ → List ℕ
+after_image_header bytes = drop (image_header_size (version_of bytes) (numbers_of bytes)) bytes
 
 -- the code words come first
 unfoldable pub words_in : List ℕ → List ℕ
-words_in bytes = words_of (take (4 * (numbers_of bytes).words) (behind_front bytes))
+words_in bytes = words_of (take (4 * (numbers_of bytes).words) (after_image_header bytes))
 
 -- the data bytes follow them
 unfoldable pub data_in : List ℕ → List ℕ
-data_in bytes = drop (4 * (numbers_of bytes).words) (behind_front bytes)
+data_in bytes = drop (4 * (numbers_of bytes).words) (after_image_header bytes)

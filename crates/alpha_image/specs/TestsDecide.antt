@@ -3,7 +3,8 @@ use Rattle.std.specs.Prelude.{◌≡◌, ◌+◌, ◌*◌, ◌%◌, ◌^◌, ◌
 use Rattle.std.specs.List.Sorted.{IsStrictlyIncreasing}
 use Rattle.alpha_image.specs.Numbers.{Numbers}
 use Rattle.alpha_image.specs.Rules.{Holds, AreApart, code_segment, size_of_segment, regions, IsBase}
-use Rattle.alpha_image.specs.FieldTests.{is_base, data_bases_fit, code_words_fit, data_bytes_fit, zeroed_bytes_fit, stack_bytes_fit, entry_fits, regions_fit, level_fits, segments_fit}
+use Rattle.alpha_image.specs.FieldTests.{is_base, data_bases_fit, code_words_fit, data_bytes_fit, zeroed_bytes_fit}
+use Rattle.alpha_image.specs.FieldTests.{stack_bytes_fit, entry_fits, regions_fit, level_fits, segments_fit}
 
 -- field 1
 abbrev pub CodeBaseFits : Numbers → Type 0

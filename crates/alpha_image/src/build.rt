@@ -86,7 +86,7 @@ impl Image {
         bytes: Vec<u8>,
     ) -> Image
         requires fields { FieldsFit (level_numbers fields.now (length insns.items) segments.now) }
-        requires suits { let words = length insns.items in
+        requires matches_version { let words = length insns.items in
             SuitsVersion version (level_numbers fields.now words segments.now) }
         requires insns { All (IsCodeInsn (numbered_level fields.now.level)) insns.items }
         requires bytes { length bytes.items ≡ filled_size segments.now }
@@ -117,7 +117,7 @@ fn build(
 ) -> Result<Image, ImageFault>
     requires code { length code.now % 4 ≡ 0 }
     requires bytes { length bytes.now ≡ filled_size segments.now }
-    requires suits { let words = length code.now / 4 in
+    requires matches_version { let words = length code.now / 4 in
         SuitsVersion version (level_numbers fields.now words segments.now) }
     ensures parts { let words = words_of code.now in
         let n = level_numbers fields.now (length words) segments.now in

@@ -3,10 +3,11 @@
 ghost use Rattle.std.specs.Prelude.{◌≡◌, ◌≢◌, ◌<◌, ◌≤◌, length, take, IfNone, IfOk, IfErr};
 ghost use Rattle.alpha_image.specs.Header.{header_numbers};
 ghost use Rattle.alpha_image.specs.Layout.{filled_size, first_segment};
-ghost use Rattle.alpha_image.specs.Reading.{version_of, numbers_in, numbers_of, size_of, front_size, numbered_level};
+ghost use Rattle.alpha_image.specs.Reading.{version_of, numbers_in, numbers_of, size_of, image_header_size};
+ghost use Rattle.alpha_image.specs.Reading.{numbered_level};
 ghost use Rattle.alpha_image.specs.Rules.{FieldsFit};
 ghost use Rattle.alpha_image.specs.FieldTests.{least_bad_field};
-ghost use Rattle.alpha_image.specs.ImageFault.{front_fault};
+ghost use Rattle.alpha_image.specs.ImageFault.{image_header_fault};
 ghost use Rattle.alpha_image.specs.Tells.{Tells};
 
 use crate::number::{longword_at, quadword_at};
@@ -36,7 +37,7 @@ pub(crate) struct Header {
 impl Header {
     /// The numbers at the front of the bytes.
     pub fn read(bytes: &[u8]) -> Result<Header, ImageFault>
-        ensures fault { Tells result (front_fault (version_of bytes.now) bytes.now) }
+        ensures fault { Tells result (image_header_fault (version_of bytes.now) bytes.now) }
         ensures memory { IfErr result (λ e. e ≢ ImageFault.NoMemory) }
         ensures version { IfOk result (λ h. h.version ≡ version_of bytes.now) }
         ensures numbers { IfOk result (λ h. header_numbers h ≡ numbers_of bytes.now) }
@@ -48,9 +49,9 @@ impl Header {
     }
 
     // The header in bytes of version 1.
-    #[tactic(auto, unfolding(crate::specs::ImageFault::front_fault))]
+    #[tactic(auto, unfolding(crate::specs::ImageFault::image_header_fault))]
     fn read_first(bytes: &[u8]) -> Result<Header, ImageFault>
-        ensures fault { Tells result (front_fault Version.One bytes.now) }
+        ensures fault { Tells result (image_header_fault Version.One bytes.now) }
         ensures memory { IfErr result (λ e. e ≢ ImageFault.NoMemory) }
         ensures version { IfOk result (λ h. h.version ≡ Version.One) }
         ensures numbers { IfOk result (λ h. header_numbers h ≡ numbers_in Version.One bytes.now) }
@@ -81,9 +82,9 @@ impl Header {
     }
 
     // The header in bytes of version 2.
-    #[tactic(auto, unfolding(crate::specs::ImageFault::front_fault))]
+    #[tactic(auto, unfolding(crate::specs::ImageFault::image_header_fault))]
     fn read_level(bytes: &[u8]) -> Result<Header, ImageFault>
-        ensures fault { Tells result (front_fault Version.Two bytes.now) }
+        ensures fault { Tells result (image_header_fault Version.Two bytes.now) }
         ensures memory { IfErr result (λ e. e ≢ ImageFault.NoMemory) }
         ensures version { IfOk result (λ h. h.version ≡ Version.Two) }
         ensures numbers { IfOk result (λ h. header_numbers h ≡ numbers_in Version.Two bytes.now) }
@@ -122,7 +123,7 @@ impl Header {
 
     /// How many bytes stand before the code.
     pub fn front_size(&self) -> usize
-        ensures value { result ≡ front_size self.now.version (header_numbers self.now) }
+        ensures value { result ≡ image_header_size self.now.version (header_numbers self.now) }
         ensures bound { result ≤ 168 }
     {
         match self.version {

@@ -1,4 +1,5 @@
-ghost use Rattle.std.specs.Prelude.{◌≡◌, ◌+◌, ◌*◌, ◌<◌, ◌≢◌, ◌↔◌, ◌++◌, ℕ, length, map, slice_index, slice_get, Some, IfSome, IfNone, IfOk, OnOk, IsSome, All};
+ghost use Rattle.std.specs.Prelude.{◌≡◌, ◌+◌, ◌*◌, ◌<◌, ◌≢◌, ◌↔◌, ◌++◌, ℕ, length, map, slice_index, slice_get, Some};
+ghost use Rattle.std.specs.Prelude.{IfSome, IfNone, IfOk, OnOk, IsSome, All};
 ghost use Rattle.std.specs.List.{flat_map};
 ghost use Rattle.std.specs.Option.{option_map, option_and_then};
 ghost use Rattle.alpha_table.specs.Decoded.{decoded};
@@ -237,7 +238,7 @@ impl Image {
         bytes: &[u8],
     ) -> Result<Image, ImageFault>
         requires fields { FieldsFit (header_numbers header) }
-        requires suits { SuitsVersion header.version (header_numbers header) }
+        requires matches_version { SuitsVersion header.version (header_numbers header) }
         requires words { length code.now ≡ 4 * header.words }
         requires filled { length bytes.now ≡ filled_size header.segments.items }
         ensures fault { let level = numbered_level header.fields.level in
@@ -285,7 +286,7 @@ impl Image {
     /// The image with this header, these instructions and these data bytes.
     pub(crate) fn of_parts(header: Header, insns: Vec<Insn>, bytes: Vec<u8>) -> Image
         requires fields { FieldsFit (header_numbers header) }
-        requires suits { SuitsVersion header.version (header_numbers header) }
+        requires matches_version { SuitsVersion header.version (header_numbers header) }
         requires words { length insns.items ≡ header.words }
         requires insns { All (IsCodeInsn (numbered_level header.fields.level)) insns.items }
         requires bytes { All IsByte bytes.items }

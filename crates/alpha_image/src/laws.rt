@@ -7,7 +7,8 @@ ghost use Rattle.alpha_image.specs.Layout.{filled_size};
 ghost use Rattle.alpha_image.specs.Rules.{FieldsFit};
 ghost use Rattle.alpha_image.specs.TestsDecide.{TestsDecide};
 ghost use Rattle.alpha_image.specs.FieldTests.{least_bad_field};
-ghost use Rattle.alpha_image.specs.Parts.{Parts, IsImage, IsByte, SuitsVersion, numbers, pieces, place_of, spelling};
+ghost use Rattle.alpha_image.specs.Parts.{Parts, IsImage, IsByte, SuitsVersion, numbers, pieces, place_of};
+ghost use Rattle.alpha_image.specs.Parts.{image_spelling};
 ghost use Rattle.alpha_image.specs.PartsOf.{parts_of};
 ghost use Rattle.alpha_image.specs.ImageFault.{first_fault};
 ghost use Rattle.alpha_image.specs.Tells.{parts_fault};
@@ -16,9 +17,9 @@ ghost use Rattle.alpha_image.specs.Tells.{parts_fault};
 /// spelling of one image alone.
 pub fn laws_of_spelling()
     ensures spelled { (bytes : List ℕ) → All IsByte bytes →
-        (first_fault bytes ≡ None) ↔ ((p : Parts) × IsImage p × (bytes ≡ spelling p)) }
-    ensures one_image { (p q : Parts) → IsImage p → IsImage q → spelling p ≡ spelling q → p ≡ q }
-    ensures read_back { (p : Parts) → IsImage p → parts_of (spelling p) ≡ p }
+        (first_fault bytes ≡ None) ↔ ((p : Parts) × IsImage p × (bytes ≡ image_spelling p)) }
+    ensures one_image { (p q : Parts) → IsImage p → IsImage q → image_spelling p ≡ image_spelling q → p ≡ q }
+    ensures read_back { (p : Parts) → IsImage p → parts_of (image_spelling p) ≡ p }
 {}
 
 /// The code words stand one after the other from the code base on, and the entry is one of them.

@@ -3,7 +3,7 @@
 ghost use Rattle.std.specs.Prelude.{◌≡◌, ◌≢◌, IfOk, IfErr, OnOk};
 ghost use Rattle.alpha_image.specs.Header.{header_numbers};
 ghost use Rattle.alpha_image.specs.Reading.{version_of, numbers_of};
-ghost use Rattle.alpha_image.specs.Parts.{IsImage, spelling};
+ghost use Rattle.alpha_image.specs.Parts.{IsImage, image_spelling};
 ghost use Rattle.alpha_image.specs.PartsOf.{HasForm};
 ghost use Rattle.alpha_image.specs.ImageFault.{form_fault, first_fault};
 ghost use Rattle.alpha_image.specs.Tells.{Tells};
@@ -41,7 +41,7 @@ fn checked_header(bytes: &[u8]) -> Result<Header, ImageFault>
 /// The first fault, in the order that [`ImageFault`] has. `NoMemory` comes only where there is no fault.
 pub fn read_image(alloc: Global, bytes: &[u8]) -> Result<Image, ImageFault>
     ensures good { IfOk result IsImage }
-    ensures spelled { IfOk result (λ image. bytes.now ≡ spelling image) }
+    ensures spelled { IfOk result (λ image. bytes.now ≡ image_spelling image) }
     ensures fault { Tells result (first_fault bytes.now) }
 {
     let header = checked_header(bytes)?;
@@ -58,7 +58,7 @@ pub fn read_image(alloc: Global, bytes: &[u8]) -> Result<Image, ImageFault>
 /// Those of [`read_image`].
 pub fn take_image(alloc: Global, bytes: Vec<u8>) -> Result<Image, ImageFault>
     ensures good { IfOk result IsImage }
-    ensures spelled { IfOk result (λ image. bytes.items ≡ spelling image) }
+    ensures spelled { IfOk result (λ image. bytes.items ≡ image_spelling image) }
     ensures fault { Tells result (first_fault bytes.items) }
 {
     let header = checked_header(bytes.as_slice())?;

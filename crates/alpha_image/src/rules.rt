@@ -4,7 +4,10 @@ ghost use Rattle.std.specs.Prelude.{◌≡◌, ◌+◌, ◌≤◌, ◌^◌, nat_
 ghost use Rattle.std.specs.List.{list_all};
 ghost use Rattle.alpha_image.specs.Fields.{level_numbers};
 ghost use Rattle.alpha_image.specs.Rules.{FieldsFit, size_of_segment};
-ghost use Rattle.alpha_image.specs.FieldTests.{least_bad_field, is_base, rise, data_bases_fit, code_words_fit, data_bytes_fit, zeroed_bytes_fit, stack_bytes_fit, entry_fits, regions_fit, level_fits, segments_fit, all_apart, are_apart, segment_region};
+ghost use Rattle.alpha_image.specs.FieldTests.{least_bad_field, is_base, rise, data_bases_fit, code_words_fit};
+ghost use Rattle.alpha_image.specs.FieldTests.{data_bytes_fit, zeroed_bytes_fit, stack_bytes_fit, entry_fits};
+ghost use Rattle.alpha_image.specs.FieldTests.{regions_fit, level_fits, segments_fit, all_apart, are_apart};
+ghost use Rattle.alpha_image.specs.FieldTests.{segment_region};
 
 use crate::region::Region;
 use crate::segment::MOST_SEGMENTS;

@@ -3,8 +3,8 @@
 ghost use Rattle.std.specs.Prelude.{◌≡◌, ◌≤◌, ◌++◌, [], ◌∷◌, length, All, OnOk, IfOk};
 ghost use Rattle.std.specs.List.{concat, flat_map};
 ghost use Rattle.alpha_image.specs.Header.{header_numbers};
-ghost use Rattle.alpha_image.specs.Layout.{magic, quadword, longword, front, segment_numbers};
-ghost use Rattle.alpha_image.specs.Parts.{spelling};
+ghost use Rattle.alpha_image.specs.Layout.{magic, quadword, longword, image_header, segment_numbers};
+ghost use Rattle.alpha_image.specs.Parts.{image_spelling};
 ghost use Rattle.alpha_image.specs.Rules.{FieldsFit, size_of_segment};
 
 use crate::header::Header;
@@ -18,7 +18,7 @@ impl Header {
     fn push_onto(&self, out: &mut Vec<u8>) -> Result<(), AllocError>
         requires { FieldsFit (header_numbers self.now) }
         ensures ok { OnOk result (out.new.items ≡ out.old.items
-            ++ front self.now.version (header_numbers self.now)) }
+            ++ image_header self.now.version (header_numbers self.now)) }
     {
         match self.version {
             Version::One => self.push_first(out),
@@ -27,11 +27,11 @@ impl Header {
     }
 
     // In version 1.
-    #[tactic(auto, unfolding(crate::specs::Layout::front))]
+    #[tactic(auto, unfolding(crate::specs::Layout::image_header))]
     fn push_first(&self, out: &mut Vec<u8>) -> Result<(), AllocError>
         requires { FieldsFit (header_numbers self.now) }
         ensures ok { OnOk result (out.new.items ≡ out.old.items
-            ++ front Version.One (header_numbers self.now)) }
+            ++ image_header Version.One (header_numbers self.now)) }
     {
         let segment = self.first_segment();
         self.push_addresses(out, segment)?;
@@ -64,11 +64,11 @@ impl Header {
     }
 
     // In version 2.
-    #[tactic(auto, unfolding(crate::specs::Layout::front))]
+    #[tactic(auto, unfolding(crate::specs::Layout::image_header))]
     fn push_level(&self, out: &mut Vec<u8>) -> Result<(), AllocError>
         requires { FieldsFit (header_numbers self.now) }
         ensures ok { OnOk result (out.new.items ≡ out.old.items
-            ++ front Version.Two (header_numbers self.now)) }
+            ++ image_header Version.Two (header_numbers self.now)) }
     {
         self.push_level_addresses(out)?;
         self.push_level_sizes(out)?;
@@ -121,7 +121,7 @@ fn push_segment(out: &mut Vec<u8>, segment: &Segment) -> Result<(), AllocError>
 
 /// The one spelling of an image. Memory taken is that of these bytes; `NoMemory` where it runs out.
 pub fn image_bytes(alloc: Global, image: &Image) -> Result<Vec<u8>, NoMemory>
-    ensures value { IfOk result (λ bytes. bytes.items ≡ spelling image.now) }
+    ensures value { IfOk result (λ bytes. bytes.items ≡ image_spelling image.now) }
 {
     let header = image.header();
     let size = header.front_size() + 4 * image.words() as usize + image.data_bytes().len();

@@ -27,11 +27,11 @@ use Rattle.alpha_seq.specs.Start.{start_memory, start_regs, start}
 use Rattle.alpha_seq.specs.Run.{log}
 use Rattle.alpha_trap.specs.Scan.{fits, greatest_below}
 use Rattle.alpha_imprecise.specs.Run.{seen as seen_in}
-use Rattle.alpha_imprecise.specs.Made.{Making, begun, made, LostTrap, wild_end, lost_trap}
+use Rattle.alpha_imprecise.specs.ChosenRun.{ChosenRun, begun, chosen_run, LostTrap, end_of_imprecise_event, lost_trap}
 
 -- words at 65,536 with a stack of 16 bytes and no segment
 abbrev program : List ℕ → Completion → Program
-program words how = record {
+program words completion = record {
   image = record {
     version = versions.Two;
     level = levels.One;
@@ -42,37 +42,40 @@ program words how = record {
     words = words;
     bytes = [];
   };
-  how = how;
+  completion = completion;
 }
 
 -- how a run of at most so many units ended, the trap that was lost, the overflows that were logged, the units and how
 -- many words were drawn
-record Seen : Type 0 where
+record ExampleRun : Type 0 where
   end : Option End
   lost : Option LostTrap
   logged : List ℕ
   units : ℕ
   drawn : ℕ
 
-abbrev seen : Making → Seen
+abbrev seen : ChosenRun → ExampleRun
 seen k = record {
-  end = wild_end k.run.at.happened;
-  lost = lost_trap k.run.at.happened;
+  end = end_of_imprecise_event k.run.at.last_event;
+  lost = lost_trap k.run.at.last_event;
   logged = log (seen_in k.run.steps);
   units = k.run.units;
   drawn = k.count;
 }
 
 -- the run by these words, over an empty input
-unfoldable run : Completion → ℕ → List ℕ → List ℕ → Seen
-unfolding int_wrap digits number reg put class_at class_in pairwise is_taken register_of address_of high_address_of access_address result_of overflow_of completed_of fault_of each_within bytes_at write_bytes call longword place_of start_memory start_regs fits greatest_below
-run how n code words = let g = program code how in seen (made g (begun (start g) [] None 0 words) n)
+unfoldable run : Completion → ℕ → List ℕ → List ℕ → ExampleRun
+unfolding int_wrap digits number reg put class_at class_in pairwise is_taken register_of address_of high_address_of
+    access_address result_of overflow_of completed_of fault_of each_within bytes_at write_bytes call longword place_of
+    start_memory start_regs fits greatest_below
+run completion n code words = let g = program code completion in seen (chosen_run g (begun (start g) [] None 0 words) n)
 
-abbrev exits : ℕ → List ℕ → ℕ → ℕ → Seen
+abbrev exits : ℕ → List ℕ → ℕ → ℕ → ExampleRun
 exits value logged units drawn =
     record { end = Some (Exit value); lost = None; logged = logged; units = units; drawn = drawn }
 
--- `lda $1,-1($31); srl $1,1,$1; bis $31,1,$2; addq/v $1,$2,$3; addq/v $1,$1,$4; trapb; xor $3,$4,$16; lda $0,1($31); callsys`
+-- `lda $1,-1($31); srl $1,1,$1; bis $31,1,$2; addq/v $1,$2,$3; addq/v $1,$1,$4; trapb; xor $3,$4,$16; lda $0,1($31);
+-- callsys`
 abbrev two_overflows : List ℕ
 two_overflows =
     0x203fffff ∷ 0x48203681 ∷ 0x47e03402 ∷ 0x40220c03 ∷ 0x40210c04 ∷ 0x63ff0000 ∷ 0x44640810 ∷ 0x201f0001 ∷ 0x83 ∷ []
@@ -89,7 +92,7 @@ two_overflows-wrap : run Wrap 9 two_overflows (9 ∷ 5 ∷ 9 ∷ 9 ∷ [])
 unfolding run
 two_overflows-wrap = refl
 
-abbrev stops_at : ℕ → ℕ → ℕ → Seen
+abbrev stops_at : ℕ → ℕ → ℕ → ExampleRun
 stops_at pc units drawn =
     record { end = Some (Overflow pc); lost = None; logged = []; units = units; drawn = drawn }
 
@@ -103,7 +106,8 @@ two_overflows-spent : run Stop 3 two_overflows (9 ∷ 5 ∷ 9 ∷ 9 ∷ [])
 unfolding run
 two_overflows-spent = refl
 
--- `lda $17,-1($31); srl $17,1,$17; addq/v $17,$30,$16; trapb; lda $0,1($31); callsys`: the registers that an entry saves
+-- `lda $17,-1($31); srl $17,1,$17; addq/v $17,$30,$16; trapb; lda $0,1($31); callsys`: the registers that an entry
+-- saves
 abbrev in_frame : List ℕ
 in_frame = 0x223fffff ∷ 0x4a203691 ∷ 0x423e0c10 ∷ 0x63ff0000 ∷ 0x201f0001 ∷ 0x83 ∷ []
 
@@ -142,7 +146,7 @@ source-lost : run Saturate 100 (behind_two (0x40220c01 ∷ 0x63ff0000 ∷ 0x4421
 unfolding run
 source-lost = refl
 
-abbrev loses : ℕ → ℕ → ℕ → ℕ → Seen
+abbrev loses : ℕ → ℕ → ℕ → ℕ → ExampleRun
 loses pc mask units drawn =
     record { end = None; lost = Some (record { pc = pc; mask = mask }); logged = []; units = units; drawn = drawn }
 
@@ -152,7 +156,8 @@ unfolding run
 mask-empty = refl
 
 -- `addq/v $1,$2,$3; br $31,.+4; trapb`: the turn is no place to scan over
-turn-pending : run Wrap 100 (behind_two (0x40220c03 ∷ 0xc3e00000 ∷ 0x63ff0000 ∷ [])) (0 ∷ 1 ∷ 0 ∷ []) ≡ loses 65556 8 4 3
+turn-pending : run Wrap 100 (behind_two (0x40220c03 ∷ 0xc3e00000 ∷ 0x63ff0000 ∷ [])) (0 ∷ 1 ∷ 0 ∷ [])
+    ≡ loses 65556 8 4 3
 unfolding run
 turn-pending = refl
 
@@ -168,16 +173,16 @@ same_destination-stop : run Stop 100 same_destination (0 ∷ 1 ∷ 9 ∷ []) ≡
 unfolding run
 same_destination-stop = refl
 
--- `addq/v $1,$2,$3; ldq $4,-8($30); stq $2,-8($30); trapb; bis $4,$4,$16` and the exit: the load is made again, behind the
--- store of other bytes
+-- `addq/v $1,$2,$3; ldq $4,-8($30); stq $2,-8($30); trapb; bis $4,$4,$16` and the exit: the load is made again, behind
+-- the store of other bytes
 load-again : run Wrap 100 (behind_two (0x40220c03 ∷ 0xa49efff8 ∷ 0xb45efff8 ∷ 0x63ff0000 ∷ 0x44840410 ∷ exit))
     (0 ∷ 1 ∷ 0 ∷ 1 ∷ 7 ∷ [])
     ≡ exits 7 (65548 ∷ []) 10 5
 unfolding run
 load-again = refl
 
--- `ldq_l $4,-8($30); addq/v $1,$2,$3; stq_c $31,-8($30); trapb; ldq $16,-8($30)` and the exit: a pending conditional store
--- that succeeds stores other bytes, and is made again without the flag
+-- `ldq_l $4,-8($30); addq/v $1,$2,$3; stq_c $31,-8($30); trapb; ldq $16,-8($30)` and the exit: a pending conditional
+-- store that succeeds stores other bytes, and is made again without the flag
 conditional-pending : run Wrap 100
     (behind_two (0xac9efff8 ∷ 0x40220c03 ∷ 0xbffefff8 ∷ 0x63ff0000 ∷ 0xa61efff8 ∷ exit)) (0 ∷ 1 ∷ 7 ∷ [])
     ≡ exits 7 (65552 ∷ []) 10 3

@@ -1,11 +1,13 @@
 -- The choices that are made by words of 64 bits: a word draws no choice, one word or two.
-use Rattle.std.specs.Prelude.{◌≡◌, ℕ, ◌+◌, ◌/◌, ◌%◌, Bool, true, false, ◌==◌, not, ◌||◌, nat_le, if◌then◌else◌, List, [], ◌∷◌, drop, Option, Some, None}
+use Rattle.std.specs.Prelude.{◌≡◌, ℕ, ◌+◌, ◌/◌, ◌%◌, Bool, true, false, ◌==◌, not, ◌||◌, nat_le, if◌then◌else◌, List}
+use Rattle.std.specs.Prelude.{[], ◌∷◌, drop, Option, Some, None}
 use Rattle.alpha_table.specs.Class.{Class}
 use Rattle.alpha_seq.specs.State.{Program, State}
 use Rattle.alpha_seq.specs.Step.{next_class}
-use Rattle.alpha_imprecise.specs.Moment.{Trap, Choice, Happening, Precisely, Triggered, Waited, Reported, Lost, Moment}
-use Rattle.alpha_imprecise.specs.Step.{triggers, can_wait, wild}
-use Rattle.alpha_imprecise.specs.Run.{given_to, next_wild}
+use Rattle.alpha_imprecise.specs.StepResult.{Trap, Choice, ImpreciseEvent, Precisely, Triggered, Waited, Reported, Lost}
+use Rattle.alpha_imprecise.specs.StepResult.{StepResult}
+use Rattle.alpha_imprecise.specs.Step.{triggers, can_wait, imprecise_step}
+use Rattle.alpha_imprecise.specs.Run.{given_to, next_step_result}
 
 -- the first of the coming words; behind the last one come zeros
 abbrev pub first_word : List ℕ → ℕ
@@ -51,11 +53,11 @@ abbrev pub draw : Program → State → Option Trap → ℕ → List ℕ → Dra
 draw g s pending waited words = draw_at (next_class g s.pc) s pending waited words
 
 -- the step that coming words choose, where this is what there is to be read
-abbrev pub chosen : Program → State → Option Trap → ℕ → List ℕ → List ℕ → Moment
-chosen g s pending waited words input = wild g s pending (draw g s pending waited words).choice input
+abbrev pub chosen : Program → State → Option Trap → ℕ → List ℕ → List ℕ → StepResult
+chosen g s pending waited words input = imprecise_step g s pending (draw g s pending waited words).choice input
 
 -- how many words were executed since the trigger, after a step; a lost trap leaves the number
-abbrev pub waited_after : Happening → ℕ → ℕ
+abbrev pub waited_after : ImpreciseEvent → ℕ → ℕ
 waited_after (Precisely event) n = 0
 waited_after (Triggered value) n = 0
 waited_after (Waited adds value bytes) n = n + 1
@@ -63,13 +65,14 @@ waited_after (Reported at) n = 0
 waited_after (Lost pc mask) n = n
 
 -- and how many after steps
-abbrev pub waits_behind : List Happening → ℕ → ℕ
+abbrev pub waits_behind : List ImpreciseEvent → ℕ → ℕ
 waits_behind [] n = n
 waits_behind (h ∷ hs) n = waits_behind hs (waited_after h n)
 
 -- these words, one behind another, choose each of the steps, and these are left
-abbrev pub Draws : Program → Moment → ℕ → List ℕ → List Happening → List ℕ → Type 0
+abbrev pub Draws : Program → StepResult → ℕ → List ℕ → List ImpreciseEvent → List ℕ → Type 0
 Draws g a waited words [] rest = words ≡ rest
 Draws g a waited words (h ∷ hs) rest =
-    ((chosen g a.state a.pending waited words (given_to h)).happened ≡ h)
-    × Draws g (next_wild g a h) (waited_after h waited) (drop (draw g a.state a.pending waited words).count words) hs rest
+    ((chosen g a.state a.pending waited words (given_to h)).last_event ≡ h)
+    × Draws g (next_step_result g a h) (waited_after h waited)
+    (drop (draw g a.state a.pending waited words).count words) hs rest

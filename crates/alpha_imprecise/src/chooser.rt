@@ -1,5 +1,5 @@
 ghost use Rattle.std.specs.Prelude.{ℕ, [], ◌∷◌, Option};
-ghost use Rattle.alpha_imprecise.specs.Telling.{telling, Moves};
+ghost use Rattle.alpha_imprecise.specs.Oracle.{oracle_of, OracleDraws};
 
 /// Where the choices of a run come from: words of 64 bits.
 pub trait Chooser {
@@ -11,6 +11,6 @@ pub trait Chooser {
 
     /// The next word.
     fn next(&mut self) -> u64
-        ensures { Moves (telling ahead drawn self.old) (telling ahead drawn self.new)
+        ensures { OracleDraws (oracle_of ahead drawn self.old) (oracle_of ahead drawn self.new)
             (result ∷ []) };
 }

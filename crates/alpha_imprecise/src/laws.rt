@@ -1,10 +1,11 @@
 ghost use Rattle.std.specs.Prelude.{◌≡◌, ◌≤◌, ◌+◌, ◌++◌, ℕ, List, length, None, false};
 ghost use Rattle.alpha_seq.specs.State.{Program, State};
-ghost use Rattle.alpha_imprecise.specs.Moment.{Happening, Moment};
-ghost use Rattle.alpha_imprecise.specs.Run.{begins_wild, finished, RunsWild, units, WildRun, RunsOver};
+ghost use Rattle.alpha_imprecise.specs.StepResult.{ImpreciseEvent, StepResult};
+ghost use Rattle.alpha_imprecise.specs.Run.{imprecise_start, finished, RunsImprecisely, units, ImpreciseRun, RunsOver};
 ghost use Rattle.alpha_imprecise.specs.Used.{HasUsed};
 ghost use Rattle.alpha_imprecise.specs.Chosen.{most_waited, Draws};
-ghost use Rattle.alpha_imprecise.specs.Made.{Making, begun, advance_making, made, most_steps, most_words, IsWithin, Nearer};
+ghost use Rattle.alpha_imprecise.specs.ChosenRun.{ChosenRun, begun, advance_chosen_run, chosen_run, most_steps};
+ghost use Rattle.alpha_imprecise.specs.ChosenRun.{most_words, IsWithin, Nearer};
 
 /// The laws of runs that coming words make over an input: a run of so many units, with nothing pending at the
 /// beginning, uses them or is over before, with nothing pending at its end, takes 1,026 steps a unit at most, and draws
@@ -12,15 +13,15 @@ ghost use Rattle.alpha_imprecise.specs.Made.{Making, begun, advance_making, made
 /// uses a unit, or executes one word more while a trap is pending, or reports the trap, or is the last.
 pub fn laws_of_chosen_runs()
     ensures used { (g : Program) (s : State) (input words : List ℕ) (n : ℕ)
-        → let w = (made g (begun s input None 0 words) n).run in HasUsed n w.units w.at }
+        → let w = (chosen_run g (begun s input None 0 words) n).run in HasUsed n w.units w.at }
     ensures steps { (g : Program) (s : State) (input words : List ℕ) (n : ℕ)
-        → let from = begun s input None 0 words in IsWithin (most_steps n) g from (made g from n) }
+        → let from = begun s input None 0 words in IsWithin (most_steps n) g from (chosen_run g from n) }
     ensures words { (g : Program) (s : State) (input words : List ℕ) (n : ℕ)
-        → (made g (begun s input None 0 words) n).count ≤ most_words n }
-    ensures pending { (g : Program) (from : Making) (n : ℕ)
-        → IsWithin (most_waited + 1 + most_steps n) g from (made g from n) }
-    ensures nearer { (g : Program) (from : Making) → finished from.run.at.happened ≡ false
-        → Nearer from (advance_making g from) }
+        → (chosen_run g (begun s input None 0 words) n).count ≤ most_words n }
+    ensures pending { (g : Program) (from : ChosenRun) (n : ℕ)
+        → IsWithin (most_waited + 1 + most_steps n) g from (chosen_run g from n) }
+    ensures nearer { (g : Program) (from : ChosenRun) → finished from.run.at.last_event ≡ false
+        → Nearer from (advance_chosen_run g from) }
 {}
 
 /// The laws of runs whatever their steps are given: the run that words make over an input is a list of steps that these
@@ -29,13 +30,13 @@ pub fn laws_of_chosen_runs()
 /// most.
 pub fn laws_of_free_runs()
     ensures told { (g : Program) (s : State) (input words : List ℕ) (n : ℕ)
-        → let k = made g (begun s input None 0 words) n in
-        RunsOver g s input k.run × Draws g (begins_wild s) 0 words k.run.steps k.words }
-    ensures made { (g : Program) (s : State) (input words rest : List ℕ) (n : ℕ) (w : WildRun)
-        → RunsOver g s input w → Draws g (begins_wild s) 0 words w.steps rest
-        → HasUsed n w.units w.at → (made g (begun s input None 0 words) n).run ≡ w }
-    ensures words { (g : Program) (s : State) (words : List ℕ) (steps : List Happening)
-        (at : Moment) → RunsWild g (begins_wild s) steps at
-        → ((coming : List ℕ) → Draws g (begins_wild s) 0 (words ++ coming) steps coming)
-        → length words ≤ most_words (units g (begins_wild s) steps) }
+        → let k = chosen_run g (begun s input None 0 words) n in
+        RunsOver g s input k.run × Draws g (imprecise_start s) 0 words k.run.steps k.words }
+    ensures made { (g : Program) (s : State) (input words rest : List ℕ) (n : ℕ) (w : ImpreciseRun)
+        → RunsOver g s input w → Draws g (imprecise_start s) 0 words w.steps rest
+        → HasUsed n w.units w.at → (chosen_run g (begun s input None 0 words) n).run ≡ w }
+    ensures words { (g : Program) (s : State) (words : List ℕ) (steps : List ImpreciseEvent)
+        (at : StepResult) → RunsImprecisely g (imprecise_start s) steps at
+        → ((coming : List ℕ) → Draws g (imprecise_start s) 0 (words ++ coming) steps coming)
+        → length words ≤ most_words (units g (imprecise_start s) steps) }
 {}

@@ -5,7 +5,7 @@ ghost use Rattle.alpha_table.specs.ClassOf.{class_of};
 ghost use Rattle.alpha_seq.specs.Next.{next_insn};
 ghost use Rattle.alpha_seq.specs.Machine.{program_of, class_here, state_of};
 ghost use Rattle.alpha_imprecise.specs.Step.{triggers, destination, can_wait};
-ghost use Rattle.alpha_imprecise.specs.Wild.{OverflowsAt, WaitsAt};
+ghost use Rattle.alpha_imprecise.specs.ImpreciseState.{OverflowsAt, WaitsAt};
 
 use alpha_seq::{Machine, Next};
 use alpha_table::{Form, Insn};

@@ -2,7 +2,7 @@ ghost use Rattle.std.specs.Prelude.{◌≡◌, ◌<◌, true, IfSome, IfNone};
 ghost use Rattle.alpha_table.specs.ClassOf.{class_of};
 ghost use Rattle.alpha_seq.specs.Machine.{class_here, state_of};
 ghost use Rattle.alpha_imprecise.specs.Chosen.{must_report};
-ghost use Rattle.alpha_imprecise.specs.Wild.{WaitsAt};
+ghost use Rattle.alpha_imprecise.specs.ImpreciseState.{WaitsAt};
 
 use crate::look::waits_here;
 use alpha_seq::Machine;

@@ -5,8 +5,8 @@ ghost use Rattle.alpha_values.specs.TrapOp.{stops};
 ghost use Rattle.alpha_trap.specs.Handler.{going_on, reported};
 ghost use Rattle.alpha_trap.specs.Scan.{scan};
 ghost use Rattle.alpha_imprecise.specs.Chosen.{reporting};
-ghost use Rattle.alpha_imprecise.specs.Wild.{returned_kernel, wild_state};
-ghost use Rattle.alpha_imprecise.specs.WildEffect.{StepsAs};
+ghost use Rattle.alpha_imprecise.specs.ImpreciseState.{returned_kernel, imprecise_state};
+ghost use Rattle.alpha_imprecise.specs.ImpreciseStepEffect.{StepsAs};
 ghost use Rattle.alpha_imprecise.specs.Report.{handler_trap, answer_at, machine_at};
 
 use crate::Pending;
@@ -20,8 +20,8 @@ pub(crate) fn report(machine: &mut Machine, pending: &mut Option<Pending>, trap:
     requires user { IsTrue machine.old.kernel.user }
     requires trap { pending.old ≡ Some trap.now }
     requires few { trap.now.waited ≤ 1024 }
-    ensures step { StepsAs result (wild_state machine.old pending.old)
-        (wild_state machine.new pending.new) (reporting 0).choice }
+    ensures step { StepsAs result (imprecise_state machine.old pending.old)
+        (imprecise_state machine.new pending.new) (reporting 0).choice }
     ensures user { IsTrue machine.new.kernel.user }
     ensures bound { IfSome pending.new (λ p. p.waited ≤ 1024) }
 {
@@ -36,12 +36,12 @@ pub(crate) fn report(machine: &mut Machine, pending: &mut Option<Pending>, trap:
 
 // Goes on at the PC that the handler answered.
 fn land(machine: &mut Machine, pc: u64) -> Event
-    requires { stops machine.old.how ≡ false → 4 ≤ pc }
-    ensures answer { result ≡ answer_at (stops machine.old.how) pc }
-    ensures state { machine.new ≡ machine_at (stops machine.old.how) machine.old pc }
+    requires { stops machine.old.completion ≡ false → 4 ≤ pc }
+    ensures answer { result ≡ answer_at (stops machine.old.completion) pc }
+    ensures state { machine.new ≡ machine_at (stops machine.old.completion) machine.old pc }
 {
     machine.pc = pc;
-    if machine.how == Completion::Stop {
+    if machine.completion == Completion::Stop {
         return Event::Ended(End::Overflow { pc });
     }
     machine.lock = None;
@@ -55,7 +55,7 @@ fn land(machine: &mut Machine, pc: u64) -> Event
 fn handled(machine: &mut Machine, mask: RegSet) -> Result<u64, Lost>
     requires { IsTrue machine.old.kernel.user }
     ensures ok { IfOk result (λ pc.
-        reported machine.old.image machine.old.how machine.old.pc mask machine.old.regs
+        reported machine.old.image machine.old.completion machine.old.pc mask machine.old.regs
         ≡ Some (going_on pc machine.new.regs)) }
     ensures frame { IfOk result (λ pc.
         machine.new ≡ record machine.old {
@@ -78,7 +78,7 @@ fn handled(machine: &mut Machine, mask: RegSet) -> Result<u64, Lost>
         &machine.image,
         &mut machine.kernel,
         &mut machine.regs,
-        machine.how,
+        machine.completion,
     ) {
         Ok(pc) => Ok(pc),
         Err(lost) => {

@@ -1,24 +1,26 @@
 //! A step, by what it is: precise, a trigger, a word that is executed while a trap waits, or a report.
 
 ghost use Rattle.std.specs.Prelude.{◌≡◌, ◌<◌, ◌≤◌, false, IfSome, IfOk, IfErr, IsTrue, None, Some};
-ghost use Rattle.alpha_io.specs.Sunk.{sunk};
+ghost use Rattle.alpha_io.specs.SinkChange.{sink_change};
 ghost use Rattle.alpha_table.specs.ClassOf.{class_of};
 ghost use Rattle.alpha_seq.specs.Next.{next_insn};
 ghost use Rattle.alpha_seq.specs.Machine.{class_here, program_of, state_of};
 ghost use Rattle.alpha_seq.specs.Devices.{drawn};
 ghost use Rattle.alpha_imprecise.specs.Chosen.{reporting, triggering};
-ghost use Rattle.alpha_imprecise.specs.Moment.{Triggered, with_register};
+ghost use Rattle.alpha_imprecise.specs.StepResult.{Triggered, with_register};
 ghost use Rattle.alpha_imprecise.specs.Step.{triggers, destination, adds_here};
-ghost use Rattle.alpha_imprecise.specs.Picks.{choice_by};
-ghost use Rattle.alpha_imprecise.specs.Wild.{mask_after, wild_state, OverflowsAt, WaitsAt};
-ghost use Rattle.alpha_imprecise.specs.WildEffect.{GoesBy, wild_uses, wild_core, WildLeaves, MakesBy, BreaksBy, Chose, StepsBy, StepsAs};
-ghost use Rattle.alpha_seq.specs.StepEffect.{Makes, Breaks};
+ghost use Rattle.alpha_imprecise.specs.ChoiceSource.{choice_by};
+ghost use Rattle.alpha_imprecise.specs.ImpreciseState.{mask_after, imprecise_state, OverflowsAt, WaitsAt};
+ghost use Rattle.alpha_imprecise.specs.ImpreciseStepEffect.{ImpreciseStepBy, imprecise_units, imprecise_core};
+ghost use Rattle.alpha_imprecise.specs.ImpreciseStepEffect.{ImpreciseStateAfterFault, StepMadeByChoice};
+ghost use Rattle.alpha_imprecise.specs.ImpreciseStepEffect.{StepFaultedByChoice, Chose, StepsBy, StepsAs};
+ghost use Rattle.alpha_seq.specs.StepEffect.{StepEffect, FaultedStepEffect};
 ghost use Rattle.alpha_seq.specs.Sequential.{no_words};
 
 use crate::look::{Overflow, overflow_of};
 use crate::report::report;
-use crate::spoil::spoil;
-use crate::{Pending, Picks};
+use crate::unpredictable::execute_unpredictable;
+use crate::{ChoiceSource, Pending};
 use alpha_io::{Sink, Source};
 use alpha_seq::{Event, Fault, Machine, Wait};
 use alpha_table::{Form, Insn};
@@ -26,57 +28,57 @@ use alpha_words::{Reg, RegSet};
 
 /// Makes a step of a machine in user mode, with a trap that may be pending.
 #[inline(always)]
-pub(crate) fn step<P: Picks, S: Source, K: Sink>(
+pub(crate) fn step<P: ChoiceSource, S: Source, K: Sink>(
     machine: &mut Machine,
     pending: &mut Option<Pending>,
-    picks: &mut P,
+    choices: &mut P,
     input: &mut S,
     out: &mut K,
 ) -> Result<Event, Fault>
     requires user { IsTrue machine.old.kernel.user }
     requires few { IfSome pending.old (λ p. p.waited ≤ 1024) }
-    ensures made { IfOk result (λ event. MakesBy P.picks P.values event
-        (wild_state machine.old pending.old) (wild_state machine.new pending.new)
-        picks.old picks.new
+    ensures made { IfOk result (λ event. StepMadeByChoice P.gives_pick P.values event
+        (imprecise_state machine.old pending.old) (imprecise_state machine.new pending.new)
+        choices.old choices.new
         (drawn S.Source input.old input.new)
-        (sunk K.Sink out.old out.new)) }
-    ensures broken { IfErr result (λ fault. BreaksBy P.picks P.values fault
-        (wild_state machine.old pending.old) (wild_state machine.new pending.new)
-        picks.old picks.new
+        (sink_change K.Sink out.old out.new)) }
+    ensures broken { IfErr result (λ fault. StepFaultedByChoice P.gives_pick P.values fault
+        (imprecise_state machine.old pending.old) (imprecise_state machine.new pending.new)
+        choices.old choices.new
         (drawn S.Source input.old input.new)
-        (sunk K.Sink out.old out.new)) }
+        (sink_change K.Sink out.old out.new)) }
     ensures program { program_of machine.new ≡ program_of machine.old }
     ensures user { IsTrue machine.new.kernel.user }
     ensures bound { IfSome pending.new (λ p. p.waited ≤ 1024) }
 {
     match *pending {
-        None => with_none(machine, pending, picks, input, out),
-        Some(trap) => Ok(with_trap(machine, pending, &trap, picks)),
+        None => with_none(machine, pending, choices, input, out),
+        Some(trap) => Ok(with_trap(machine, pending, &trap, choices)),
     }
 }
 
 // Makes a step with nothing pending. The loop of a run has made most steps that only go on before, so this is rare, and
 // never inlined there.
 #[inline(never)]
-fn with_none<P: Picks, S: Source, K: Sink>(
+fn with_none<P: ChoiceSource, S: Source, K: Sink>(
     machine: &mut Machine,
     pending: &mut Option<Pending>,
-    picks: &mut P,
+    choices: &mut P,
     input: &mut S,
     out: &mut K,
 ) -> Result<Event, Fault>
     requires user { IsTrue machine.old.kernel.user }
     requires none { pending.old ≡ None }
-    ensures made { IfOk result (λ event. MakesBy P.picks P.values event
-        (wild_state machine.old pending.old) (wild_state machine.new pending.new)
-        picks.old picks.new
+    ensures made { IfOk result (λ event. StepMadeByChoice P.gives_pick P.values event
+        (imprecise_state machine.old pending.old) (imprecise_state machine.new pending.new)
+        choices.old choices.new
         (drawn S.Source input.old input.new)
-        (sunk K.Sink out.old out.new)) }
-    ensures broken { IfErr result (λ fault. BreaksBy P.picks P.values fault
-        (wild_state machine.old pending.old) (wild_state machine.new pending.new)
-        picks.old picks.new
+        (sink_change K.Sink out.old out.new)) }
+    ensures broken { IfErr result (λ fault. StepFaultedByChoice P.gives_pick P.values fault
+        (imprecise_state machine.old pending.old) (imprecise_state machine.new pending.new)
+        choices.old choices.new
         (drawn S.Source input.old input.new)
-        (sunk K.Sink out.old out.new)) }
+        (sink_change K.Sink out.old out.new)) }
     ensures program { program_of machine.new ≡ program_of machine.old }
     ensures user { IsTrue machine.new.kernel.user }
     ensures bound { IfSome pending.new (λ p. p.waited ≤ 1024) }
@@ -86,7 +88,7 @@ fn with_none<P: Picks, S: Source, K: Sink>(
     };
     match overflow_of(machine, &insn) {
         Some(overflow) => {
-            let value = picks.value();
+            let value = choices.value();
             trigger(machine, pending, &overflow, value);
             Ok(Event::Triggered(value))
         }
@@ -96,24 +98,24 @@ fn with_none<P: Picks, S: Source, K: Sink>(
 
 // Makes a step while a trap is pending.
 #[inline(always)]
-fn with_trap<P: Picks>(
+fn with_trap<P: ChoiceSource>(
     machine: &mut Machine,
     pending: &mut Option<Pending>,
     trap: &Pending,
-    picks: &mut P,
+    choices: &mut P,
 ) -> Event
     requires user { IsTrue machine.old.kernel.user }
     requires trap { pending.old ≡ Some trap.now }
     requires few { trap.now.waited ≤ 1024 }
-    ensures made { Chose P.picks P.values (wild_state machine.old pending.old) picks.old picks.new
-        (StepsAs result (wild_state machine.old pending.old) (wild_state machine.new pending.new)) }
+    ensures made { Chose P.gives_pick P.values (imprecise_state machine.old pending.old) choices.old choices.new
+        (StepsAs result (imprecise_state machine.old pending.old) (imprecise_state machine.new pending.new)) }
     ensures program { program_of machine.new ≡ program_of machine.old }
     ensures user { IsTrue machine.new.kernel.user }
     ensures bound { IfSome pending.new (λ p. p.waited ≤ 1024) }
 {
     match trap.waiting_insn(machine) {
-        Some(insn) => match picks.pick() {
-            Some(how) => wait(machine, pending, trap, &insn, &how),
+        Some(insn) => match choices.pick() {
+            Some(choice) => wait(machine, pending, trap, &insn, &choice),
             None => report(machine, pending, trap),
         },
         None => report(machine, pending, trap),
@@ -132,15 +134,16 @@ fn precise<S: Source, K: Sink>(
     requires here { insn ≡ next_insn (program_of machine.old) machine.old.pc }
     requires exact { triggers (class_here machine.old) (state_of machine.old) ≡ false }
     ensures made { IfOk result (λ event.
-        Makes (GoesBy (reporting 0).choice) wild_uses wild_core no_words event
-        (wild_state machine.old None) (wild_state machine.new None)
+        StepEffect (ImpreciseStepBy (reporting 0).choice) imprecise_units imprecise_core no_words event
+        (imprecise_state machine.old None) (imprecise_state machine.new None)
         (drawn S.Source input.old input.new)
-        (sunk K.Sink out.old out.new)) }
+        (sink_change K.Sink out.old out.new)) }
     ensures broken { IfErr result (λ fault.
-        Breaks (GoesBy (reporting 0).choice) wild_uses wild_core WildLeaves no_words fault
-        (wild_state machine.old None) (wild_state machine.new None)
+        FaultedStepEffect (ImpreciseStepBy (reporting 0).choice) imprecise_units imprecise_core
+        ImpreciseStateAfterFault no_words fault
+        (imprecise_state machine.old None) (imprecise_state machine.new None)
         (drawn S.Source input.old input.new)
-        (sunk K.Sink out.old out.new)) }
+        (sink_change K.Sink out.old out.new)) }
     ensures program { program_of machine.new ≡ program_of machine.old }
     ensures user { IsTrue machine.new.kernel.user }
 {
@@ -153,7 +156,7 @@ fn trigger(machine: &mut Machine, pending: &mut Option<Pending>, overflow: &Over
     requires none { pending.old ≡ None }
     requires overflows { OverflowsAt machine.old overflow.now.place overflow.now.rc }
     ensures step { StepsBy (Triggered value) (triggering value).choice
-        (wild_state machine.old pending.old) (wild_state machine.new pending.new) }
+        (imprecise_state machine.old pending.old) (imprecise_state machine.new pending.new) }
     ensures user { machine.new.kernel ≡ machine.old.kernel }
     ensures bound { IfSome pending.new (λ p. p.waited ≤ 1024) }
 {
@@ -172,18 +175,18 @@ fn wait(
     pending: &mut Option<Pending>,
     trap: &Pending,
     insn: &Insn,
-    how: &Wait,
+    choice: &Wait,
 ) -> Event
     requires trap { pending.old ≡ Some trap.now }
     requires few { trap.now.waited < 1024 }
     requires waits { WaitsAt machine.old (class_of insn.now) }
-    ensures step { StepsAs result (wild_state machine.old pending.old)
-        (wild_state machine.new pending.new) (choice_by (Some how.now)) }
+    ensures step { StepsAs result (imprecise_state machine.old pending.old)
+        (imprecise_state machine.new pending.new) (choice_by (Some choice.now)) }
     ensures user { machine.new.kernel ≡ machine.old.kernel }
     ensures bound { IfSome pending.new (λ p. p.waited ≤ 1024) }
 {
-    let adds = how.adds && adds_here(insn);
-    spoil(machine, insn, how.value);
+    let adds = choice.adds && adds_here(insn);
+    execute_unpredictable(machine, insn, choice.value);
     *pending = Some(Pending {
         trigger: trap.trigger,
         mask: mask_after(insn, trap.mask, adds),
@@ -191,7 +194,7 @@ fn wait(
     });
     Event::Waited(Wait {
         adds,
-        value: how.value,
+        value: choice.value,
     })
 }
 

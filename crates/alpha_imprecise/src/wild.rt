@@ -1,7 +1,7 @@
 ghost use Rattle.std.specs.Prelude.{◌≡◌, ◌<◌, ◌≤◌, ◌+◌, ◌*◌, false, None, IfSome, IfOk, IfErr, IsTrue};
 
 use crate::step::step;
-use crate::{Chooser, Pending, Picks};
+use crate::{ChoiceSource, Chooser, Pending};
 use alpha_io::{Sink, Source};
 use alpha_seq::{Event, Fault, Machine};
 use std::marker::Model;
@@ -15,9 +15,9 @@ pub struct Wild {
 
 impl Model for Wild {
     ghost use Rattle.std.specs.Prelude.{◌≡◌, ◌≤◌, true, IfSome};
-    ghost use Rattle.alpha_imprecise.specs.Wild.{WildState};
+    ghost use Rattle.alpha_imprecise.specs.ImpreciseState.{ImpreciseState};
 
-    ghost Value = { WildState };
+    ghost Value = { ImpreciseState };
 
     ghost view = { λ w. record { machine = w.machine; pending = w.pending } };
 
@@ -26,15 +26,17 @@ impl Model for Wild {
 }
 
 impl Wild {
-    ghost use Rattle.alpha_io.specs.Sunk.{sunk};
+    ghost use Rattle.alpha_io.specs.SinkChange.{sink_change};
     ghost use Rattle.alpha_seq.specs.Devices.{drawn};
-    ghost use Rattle.alpha_seq.specs.Print.{is_over};
+    ghost use Rattle.alpha_seq.specs.StepLabel.{is_over};
     ghost use Rattle.alpha_seq.specs.Machine.{Stays};
     ghost use Rattle.alpha_imprecise.specs.Run.{unit_of};
-    ghost use Rattle.alpha_imprecise.specs.Telling.{telling};
-    ghost use Rattle.alpha_imprecise.specs.Wild.{trap_in};
-    ghost use Rattle.alpha_imprecise.specs.WildRushed.{WildRushed};
-    ghost use Rattle.alpha_imprecise.specs.WildEffect.{wild_uses, wild_waits, WildMakes, WildBreaks, MakesBy, BreaksBy};
+    ghost use Rattle.alpha_imprecise.specs.Oracle.{oracle_of};
+    ghost use Rattle.alpha_imprecise.specs.ImpreciseState.{trap_in};
+    ghost use Rattle.alpha_imprecise.specs.ImpreciseFastSteps.{ImpreciseFastSteps};
+    ghost use Rattle.alpha_imprecise.specs.ImpreciseStepEffect.{imprecise_units, waits_left, ImpreciseStepMade};
+    ghost use Rattle.alpha_imprecise.specs.ImpreciseStepEffect.{ImpreciseStepFaulted, StepMadeByChoice};
+    ghost use Rattle.alpha_imprecise.specs.ImpreciseStepEffect.{StepFaultedByChoice};
 
     /// The imprecise machine with nothing pending, over a machine in user mode.
     pub fn new(machine: Machine) -> Wild
@@ -80,14 +82,14 @@ impl Wild {
     /// Makes steps with nothing pending as long as each only goes on, `units` of them at most, and answers how many it
     /// made. It may stop early: what a step does then is what [`Wild::step`] says.
     #[inline(always)]
-    pub fn rush(&mut self, units: u64) -> u64
+    pub fn run_fast(&mut self, units: u64) -> u64
         ensures most { result ≤ units }
-        ensures went { WildRushed result self.old self.new }
+        ensures went { ImpreciseFastSteps result self.old self.new }
         ensures pending { self.new.pending ≡ self.old.pending }
         ensures same { Stays self.old.machine self.new.machine }
     {
         match self.pending {
-            None => self.machine.rush(units),
+            None => self.machine.run_fast(units),
             _ => 0,
         }
     }
@@ -104,23 +106,23 @@ impl Wild {
     /// output did. Nothing is pending then, nor was before, and the machine is what
     /// [`Machine::step`] leaves of it.
     #[inline(always)]
-    pub fn step_by<P: Picks, S: Source, K: Sink>(
+    pub fn step_by<P: ChoiceSource, S: Source, K: Sink>(
         &mut self,
-        picks: &mut P,
+        choices: &mut P,
         input: &mut S,
         out: &mut K,
     ) -> Result<Event, Fault>
-        ensures made { IfOk result (λ event. MakesBy P.picks P.values event self.old self.new
-            picks.old picks.new
+        ensures made { IfOk result (λ event. StepMadeByChoice P.gives_pick P.values event self.old self.new
+            choices.old choices.new
             (drawn S.Source input.old input.new)
-            (sunk K.Sink out.old out.new)) }
-        ensures broken { IfErr result (λ fault. BreaksBy P.picks P.values fault self.old self.new
-            picks.old picks.new
+            (sink_change K.Sink out.old out.new)) }
+        ensures broken { IfErr result (λ fault. StepFaultedByChoice P.gives_pick P.values fault self.old self.new
+            choices.old choices.new
             (drawn S.Source input.old input.new)
-            (sunk K.Sink out.old out.new)) }
+            (sink_change K.Sink out.old out.new)) }
         ensures same { Stays self.old.machine self.new.machine }
     {
-        step(&mut self.machine, &mut self.pending, picks, input, out)
+        step(&mut self.machine, &mut self.pending, choices, input, out)
     }
 
     /// Makes one step by the chooser's words, as [`Wild::step_by`] does: no word is drawn where nothing
@@ -132,16 +134,16 @@ impl Wild {
         input: &mut S,
         out: &mut K,
     ) -> Result<Event, Fault>
-        ensures made { IfOk result (λ event. WildMakes event self.old self.new
-            (telling C.ahead C.drawn chooser.old) (telling C.ahead C.drawn chooser.new)
+        ensures made { IfOk result (λ event. ImpreciseStepMade event self.old self.new
+            (oracle_of C.ahead C.drawn chooser.old) (oracle_of C.ahead C.drawn chooser.new)
             (drawn S.Source input.old input.new)
-            (sunk K.Sink out.old out.new)) }
+            (sink_change K.Sink out.old out.new)) }
         ensures nearer { IfOk result (λ event. is_over event ≡ false
-            → wild_waits self.new < wild_waits self.old + 1026 * wild_uses self.old) }
-        ensures broken { IfErr result (λ fault. WildBreaks fault self.old self.new
-            (telling C.ahead C.drawn chooser.old) (telling C.ahead C.drawn chooser.new)
+            → waits_left self.new < waits_left self.old + 1026 * imprecise_units self.old) }
+        ensures broken { IfErr result (λ fault. ImpreciseStepFaulted fault self.old self.new
+            (oracle_of C.ahead C.drawn chooser.old) (oracle_of C.ahead C.drawn chooser.new)
             (drawn S.Source input.old input.new)
-            (sunk K.Sink out.old out.new)) }
+            (sink_change K.Sink out.old out.new)) }
         ensures same { Stays self.old.machine self.new.machine }
     {
         self.step_by(chooser, input, out)

@@ -1,11 +1,11 @@
 pub mod Counts
 pub mod FileMaps
-pub mod Fronts
-pub mod NewFiles
+pub mod FilePrefixes
+pub mod FileReplacementLaws
 pub mod Pieces
 pub mod Puts
 pub mod ReadAnswers
-pub mod Shelved
+pub mod ShelfLaws
 pub mod Sinks
 pub mod Takes
 pub mod Writes

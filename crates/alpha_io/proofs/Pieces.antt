@@ -1,5 +1,6 @@
 -- A file that was read up to some place.
-use Rattle.std.proofs.Common.{◌≡◌, ◌≢◌, All, ℕ, ◌+◌, List, [], ◌∷◌, ◌++◌, length, drop, None, Some, refl, sym, ap, ◌∙◌, subst, append_assoc, append-nil, length-append, arith}
+use Rattle.std.proofs.Common.{◌≡◌, ◌≢◌, All, ℕ, ◌+◌, List, [], ◌∷◌, ◌++◌, length, drop, None, Some, refl, sym, ap, ◌∙◌}
+use Rattle.std.proofs.Common.{subst, append_assoc, append-nil, length-append, arith}
 use Rattle.std.specs.List.{concat}
 use Rattle.std.proofs.lemmas.List.{append_cancel_left}
 use Rattle.std.proofs.lemmas.List.Elements.{All-nil, All-cons, All-head, All-tail, All-append}
@@ -16,10 +17,12 @@ pub record IsReadTo (old new : List Reply) (name bytes : List ℕ) : Type 0 wher
   pub calls : new ≡ old ++ pieces_from name 0 pieces
 
 pub pieces_from-more : (name : List ℕ) (at : ℕ) (pieces : List (List ℕ)) (p : List ℕ)
-    → pieces_from name at (pieces ++ p ∷ []) ≡ pieces_from name at pieces ++ Piece name (at + length (concat pieces)) (Some p) ∷ []
+    → pieces_from name at (pieces ++ p ∷ [])
+    ≡ pieces_from name at pieces ++ Piece name (at + length (concat pieces)) (Some p) ∷ []
 pieces_from-more name at [] p = ap (λ n. Piece name n (Some p) ∷ []) (omega arith)
 pieces_from-more name at (q ∷ qs) p =
-    let next : at + length q + length (concat qs) ≡ at + length (q ++ concat qs) = omega (arith, length-append q (concat qs)) in
+    let next : at + length q + length (concat qs) ≡ at + length (q ++ concat qs) =
+    omega (arith, length-append q (concat qs)) in
     ap (λ xs. Piece name at (Some q) ∷ xs) (pieces_from-more name (at + length q) qs p
     ∙ ap (λ n. pieces_from name (at + length q) qs ++ Piece name n (Some p) ∷ []) next)
 
@@ -33,7 +36,10 @@ IsReadTo-more old new after name bytes more p so some is then =
     record {
       pieces = so.pieces ++ p ∷ [];
       some = All-append IsSome so.pieces (p ∷ []) so.some (All-cons IsSome p [] some (All-nil IsSome));
-      whole = concat-append so.pieces (p ∷ []) ∙ ap (λ l. l ++ (p ++ [])) so.whole ∙ ap (λ l. bytes ++ l) (append-nil p) ∙ sym then;
+      whole =
+          concat-append so.pieces (p ∷ []) ∙ ap (λ l. l ++ (p ++ [])) so.whole
+          ∙ ap (λ l. bytes ++ l) (append-nil p) ∙ sym
+          then;
       calls = is ∙ ap (λ l. l ++ Piece name (length bytes) (Some p) ∷ []) so.calls
           ∙ append_assoc old (pieces_from name 0 so.pieces) (Piece name (length bytes) (Some p) ∷ [])
           ∙ ap (λ l. old ++ l) (ap (λ n. pieces_from name 0 so.pieces ++ Piece name n (Some p) ∷ []) place
@@ -74,16 +80,17 @@ rest_from : (name : List ℕ) (at : ℕ) (p q : List ℕ) (xs : List Reply) (qs 
     → Piece name at (Some p) ∷ xs ≡ (Piece name at (Some q) ∷ pieces_from name (at + length q) qs) ++ ys
     → xs ≡ pieces_from name (at + length p) qs ++ ys
 rest_from name at p q xs qs ys same =
-    subst (λ (l : List ℕ). xs ≡ pieces_from name (at + length l) qs ++ ys) (sym (ap first_bytes same)) (ap (λ (l : List Reply). drop 1 l) same)
+    subst (λ (l : List ℕ). xs ≡ pieces_from name (at + length l) qs ++ ys) (sym (ap first_bytes same))
+    (ap (λ (l : List Reply). drop 1 l) same)
 
 -- pieces that all have bytes don't end a file
-unended : (name : List ℕ) (at n : ℕ) (ps qs : List (List ℕ)) → All IsSome ps
+pieces-not_ended : (name : List ℕ) (at n : ℕ) (ps qs : List (List ℕ)) → All IsSome ps
     → pieces_from name at ps ≡ pieces_from name at qs ++ ending name n → ⊥
-unended name at n [] [] some same = omega (arith, ap (λ (l : List Reply). length l) same)
-unended name at n [] (q ∷ qs) some same = omega (arith, ap first_given same)
-unended name at n (p ∷ ps) [] some same = All-head IsSome p ps some (ap first_bytes same)
-unended name at n (p ∷ ps) (q ∷ qs) some same =
-    unended name (at + length p) n ps qs (All-tail IsSome p ps some) (rest_from name at p q _ qs _ same)
+pieces-not_ended name at n [] [] some same = omega (arith, ap (λ (l : List Reply). length l) same)
+pieces-not_ended name at n [] (q ∷ qs) some same = omega (arith, ap first_given same)
+pieces-not_ended name at n (p ∷ ps) [] some same = All-head IsSome p ps some (ap first_bytes same)
+pieces-not_ended name at n (p ∷ ps) (q ∷ qs) some same =
+    pieces-not_ended name (at + length p) n ps qs (All-tail IsSome p ps some) (rest_from name at p q _ qs _ same)
 
 -- nor do pieces of which the last wasn't given
 ungiven : (name : List ℕ) (at m n : ℕ) (ps qs : List (List ℕ)) → All IsSome ps
@@ -102,16 +109,19 @@ same_pieces name at m n [] (q ∷ qs) some more same = absurd (All-head IsSome q
 same_pieces name at m n (p ∷ ps) [] some more same = absurd (All-head IsSome p ps some (ap first_bytes same))
 same_pieces name at m n (p ∷ ps) (q ∷ qs) some more same =
     let rest : concat ps ≡ concat qs =
-    same_pieces name (at + length p) m n ps qs (All-tail IsSome p ps some) (All-tail IsSome q qs more) (rest_from name at p q _ qs _ same) in
+    same_pieces name (at + length p) m n ps qs (All-tail IsSome p ps some) (All-tail IsSome q qs more)
+    (rest_from name at p q _ qs _ same) in
     ap (λ l. p ++ l) rest ∙ ap (λ l. l ++ concat qs) (ap first_bytes same)
 
 -- the calls behind those before
 from_end : {old new : List Reply} {name file : List ℕ} → (whole : IsReadWhole old new name file)
     → new ≡ old ++ (pieces_from name 0 whole.pieces ++ ending name (length file))
-from_end {old} {new} {name} {file} whole = whole.calls ∙ append_assoc old (pieces_from name 0 whole.pieces) (ending name (length file))
+from_end {old} {new} {name} {file} whole =
+    whole.calls ∙ append_assoc old (pieces_from name 0 whole.pieces) (ending name (length file))
 
 -- what was read whole between two moments is one file
-pub one_file : (old new : List Reply) (name first second : List ℕ) → IsReadWhole old new name first → IsReadWhole old new name second
+pub one_file : (old new : List Reply) (name first second : List ℕ) → IsReadWhole old new name first
+    → IsReadWhole old new name second
     → first ≡ second
 one_file old new name first second one other =
     sym one.whole
@@ -120,14 +130,18 @@ one_file old new name first second one other =
     ∙ other.whole
 
 -- a file that was read up to some place wasn't read whole
-pub unended_file : (old new : List Reply) (name bytes file : List ℕ) → IsReadTo old new name bytes → IsReadWhole old new name file → ⊥
+pub unended_file : (old new : List Reply) (name bytes file : List ℕ) → IsReadTo old new name bytes
+    → IsReadWhole old new name file → ⊥
 unended_file old new name bytes file so whole =
-    unended name 0 (length file) so.pieces whole.pieces so.some (append_cancel_left old _ _ (sym so.calls ∙ from_end whole))
+    pieces-not_ended name 0 (length file) so.pieces whole.pieces so.some
+    (append_cancel_left old _ _ (sym so.calls ∙ from_end whole))
 
 -- nor was one of which a piece couldn't be read
 pub ungiven_file : (old new after : List Reply) (name bytes file : List ℕ) (at : ℕ) → IsReadTo old new name bytes
     → after ≡ new ++ Piece name at None ∷ [] → IsReadWhole old after name file → ⊥
 ungiven_file old new after name bytes file at so is whole =
     let calls : after ≡ old ++ (pieces_from name 0 so.pieces ++ Piece name at None ∷ []) =
-    is ∙ ap (λ l. l ++ Piece name at None ∷ []) so.calls ∙ append_assoc old (pieces_from name 0 so.pieces) (Piece name at None ∷ []) in
-    ungiven name 0 at (length file) so.pieces whole.pieces so.some (append_cancel_left old _ _ (sym calls ∙ from_end whole))
+    is ∙ ap (λ l. l ++ Piece name at None ∷ []) so.calls
+    ∙ append_assoc old (pieces_from name 0 so.pieces) (Piece name at None ∷ []) in
+    ungiven name 0 at (length file) so.pieces whole.pieces so.some
+    (append_cancel_left old _ _ (sym calls ∙ from_end whole))

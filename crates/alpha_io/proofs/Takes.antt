@@ -1,5 +1,6 @@
 -- What a source gave by calls in a row.
-use Rattle.std.proofs.Common.{◌≡◌, All, ℕ, List, [], ◌∷◌, ◌++◌, length, take, Some, None, refl, sym, ap, ◌∙◌, append_assoc, append-nil}
+use Rattle.std.proofs.Common.{◌≡◌, All, ℕ, List, [], ◌∷◌, ◌++◌, length, take, Some, None, refl, sym, ap, ◌∙◌}
+use Rattle.std.proofs.Common.{append_assoc, append-nil}
 use Rattle.std.proofs.lemmas.List.Elements.{All-nil, All-cons, All-append}
 use Rattle.std.proofs.lemmas.Grind.{flat_map-append}
 use Rattle.alpha_io.specs.History.{Reply, Took, bytes_given, all_given, IsTake, HasGiven}
@@ -7,7 +8,8 @@ use Rattle.alpha_io.specs.History.{Reply, Took, bytes_given, all_given, IsTake, 
 pub HasGiven-none : (old : List Reply) → HasGiven old old []
 HasGiven-none old = record { takes = []; only = All-nil IsTake; whole = refl; calls = sym (append-nil old) }
 
-pub HasGiven-then : (old mid new : List Reply) (xs ys : List ℕ) → HasGiven old mid xs → HasGiven mid new ys → HasGiven old new (xs ++ ys)
+pub HasGiven-then : (old mid new : List Reply) (xs ys : List ℕ) → HasGiven old mid xs → HasGiven mid new ys
+    → HasGiven old new (xs ++ ys)
 HasGiven-then old mid new xs ys one two = record {
   takes = one.takes ++ two.takes;
   only = All-append IsTake one.takes two.takes one.only two.only;
@@ -17,7 +19,8 @@ HasGiven-then old mid new xs ys one two = record {
 }
 
 -- one call
-pub HasGiven-one : (old new : List Reply) (asked : ℕ) (bytes : List ℕ) → new ≡ old ++ Took asked (Some bytes) ∷ [] → HasGiven old new bytes
+pub HasGiven-one : (old new : List Reply) (asked : ℕ) (bytes : List ℕ) → new ≡ old ++ Took asked (Some bytes) ∷ []
+    → HasGiven old new bytes
 HasGiven-one old new asked bytes is = record {
   takes = Took asked (Some bytes) ∷ [];
   only = All-cons IsTake (Took asked (Some bytes)) [] tt (All-nil IsTake);

@@ -1,5 +1,6 @@
 -- The files of a shelf: from a name's bytes to the file's bytes. A shelf that tells nothing has none of this.
-use Rattle.std.specs.Prelude.{◌≡◌, ◌≢◌, ◌↔◌, ℕ, ◌≤◌, List, length, take, drop, Bool, false, ⊤, Option, None, Some, IsSomeAnd}
+use Rattle.std.specs.Prelude.{◌≡◌, ◌≢◌, ◌↔◌, ℕ, ◌≤◌, List, length, take, drop, Bool, false, ⊤, Option, None, Some}
+use Rattle.std.specs.Prelude.{IsSomeAnd}
 
 abbrev pub Files : Type 0
 Files = Option (List ℕ → Option (List ℕ))

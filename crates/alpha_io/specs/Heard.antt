@@ -9,7 +9,9 @@ pub record Heard : Type 0 where
   pub faults : ℕ
 
 abbrev pub heard_code : Coded Heard
-heard_code = code_by (List Reply × ℕ) (coded× replies_code coded_ℕ) (λ h. (h.replies, h.faults)) (λ p. record { replies = p.0; faults = p.1 }) (λ _. refl)
+heard_code =
+    code_by (List Reply × ℕ) (coded× replies_code coded_ℕ) (λ h. (h.replies, h.faults))
+    (λ p. record { replies = p.0; faults = p.1 }) (λ _. refl)
 
 abbrev pub heard_nothing : Heard
 heard_nothing = record { replies = []; faults = 0 }

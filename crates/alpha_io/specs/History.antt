@@ -1,5 +1,6 @@
 -- What the calls of a device answered. It exists in proofs alone.
-use Rattle.std.specs.Prelude.{◌≡◌, ◌≢◌, ◌⊎◌, ⊤, All, ℕ, zero, suc, ◌+◌, ◌==◌, ◌<◌, Bool, true, false, List, [], ◌∷◌, ◌++◌, length, take, slice_index, Option, None, Some, if◌then◌else◌, Result, Ok, Err, refl}
+use Rattle.std.specs.Prelude.{◌≡◌, ◌≢◌, ◌⊎◌, ⊤, All, ℕ, zero, suc, ◌+◌, ◌==◌, ◌<◌, Bool, true, false, List, [], ◌∷◌}
+use Rattle.std.specs.Prelude.{◌++◌, length, take, slice_index, Option, None, Some, if◌then◌else◌, Result, Ok, Err, refl}
 use Rattle.std.specs.List.{concat, flat_map}
 use Rattle.std.specs.Coded.{Coded, code_by, coded×, coded_ℕ, coded_list, coded_option}
 use base.Stored.{coded_bool}
@@ -32,8 +33,9 @@ abbrev pub pieces_from : List ℕ → ℕ → List (List ℕ) → List Reply
 pieces_from name at [] = []
 pieces_from name at (piece ∷ pieces) = Piece name at (Some piece) ∷ pieces_from name (at + length piece) pieces
 
--- Between these two moments the shelf was asked for the pieces of this file, from its start on and each behind the one before, and
--- for nothing else. The last one alone was empty, which says that the file ends there. The pieces are these bytes.
+-- Between these two moments the shelf was asked for the pieces of this file, from its start on and each behind the one
+-- before, and for nothing else. The last one alone was empty, which says that the file ends there. The pieces are these
+-- bytes.
 pub record IsReadWhole (old new : List Reply) (name bytes : List ℕ) : Type 0 where
   pub pieces : List (List ℕ)
   pub some : All (λ piece. piece ≢ []) pieces
@@ -61,14 +63,14 @@ all_given replies = flat_map bytes_given replies
 abbrev pub GaveSome : Reply → Type 0
 GaveSome reply = bytes_given reply ≢ []
 
--- The last of these calls: where as many bytes were given as were asked for, there is none behind those that gave some, and
--- else there is one that gave none, which says that the input ends there.
+-- The last of these calls: where as many bytes were given as were asked for, there is none behind those that gave some,
+-- and else there is one that gave none, which says that the input ends there.
 abbrev pub EndsRead : List Reply → List Reply → ℕ → ℕ → Type 0
 EndsRead before new asked given =
     ((given ≡ asked) × (new ≡ before)) ⊎ ((given < asked) × (n : ℕ) × (new ≡ before ++ Took n (Some []) ∷ []))
 
--- Between these two moments a source was asked for so many bytes and gave these, and was asked for nothing else: each call gave
--- some of them, until there were as many, or the input ended.
+-- Between these two moments a source was asked for so many bytes and gave these, and was asked for nothing else: each
+-- call gave some of them, until there were as many, or the input ended.
 pub record IsRead (old new : List Reply) (asked : ℕ) (given : List ℕ) : Type 0 where
   pub takes : List Reply
   pub some : All GaveSome takes
@@ -95,8 +97,8 @@ pub record HasGiven (old new : List Reply) (bytes : List ℕ) : Type 0 where
   pub whole : all_given takes ≡ bytes
   pub calls : new ≡ old ++ takes
 
--- What the numbers, a name and bytes spell that `History::note` is given: the numbers say which call it was, where a piece begins
--- or how many bytes were asked for, and 1 where it was done.
+-- What the numbers, a name and bytes spell that `History::note` is given: the numbers say which call it was, where a
+-- piece begins or how many bytes were asked for, and 1 where it was done.
 abbrev pub noted : List ℕ → List ℕ → List ℕ → Reply
 noted numbers name bytes =
     if slice_index numbers 0 == 0
@@ -129,5 +131,6 @@ stored_back (Took asked given) = refl
 
 abbrev pub replies_code : Coded (List Reply)
 replies_code =
-    coded_list (code_by Stored (coded× coded_ℕ (coded× (coded_list coded_ℕ) (coded× coded_ℕ (coded× coded_bool (coded× (coded_list coded_ℕ) (coded_option (coded_list coded_ℕ)))))))
+    coded_list (code_by Stored (coded× coded_ℕ (coded× (coded_list coded_ℕ)
+    (coded× coded_ℕ (coded× coded_bool (coded× (coded_list coded_ℕ) (coded_option (coded_list coded_ℕ)))))))
     stored read_back stored_back)

@@ -2,14 +2,14 @@ pub mod Faults
 pub mod Files
 pub mod Heard
 pub mod History
-pub mod Keeping
+pub mod FileReplacement
 pub mod Line
 pub mod ReadWhole
 pub mod ShelfState
-pub mod Shelved
+pub mod ShelfChange
 pub mod SinkState
 pub mod SourceState
-pub mod Sunk
+pub mod SinkChange
 pub mod Supply
 pub mod SureShelfState
 pub mod Written

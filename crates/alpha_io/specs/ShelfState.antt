@@ -16,7 +16,8 @@ FileMap = FinMap (slice_cmp nat_cmp) (List ℕ)
 abbrev pub file_map : List (String Global × Vec ℕ Global) → FileMap
 file_map entries = from_entries (map (λ e. (string_bytes e.0, e.1.items)) entries)
 
--- the files, the numbers of the calls that fail, how many calls there were, how many faults, and what the calls answered
+-- the files, the numbers of the calls that fail, how many calls there were, how many faults, and what the calls
+-- answered
 pub record ShelfState : Type 0 where
   pub files : FileMap
   pub failing : List ℕ
@@ -28,7 +29,8 @@ pub record ShelfState : Type 0 where
 abbrev pub shelf_code : Coded ShelfState
 shelf_code =
     code_by (FileMap × (List ℕ × (ℕ × (ℕ × List Reply))))
-    (coded× (code (coded_list coded_ℕ) (coded_list coded_ℕ)) (coded× (coded_list coded_ℕ) (coded× coded_ℕ (coded× coded_ℕ replies_code))))
+    (coded× (code (coded_list coded_ℕ) (coded_list coded_ℕ))
+    (coded× (coded_list coded_ℕ) (coded× coded_ℕ (coded× coded_ℕ replies_code))))
     (λ s. (s.files, (s.failing, (s.calls, (s.faults, s.replies)))))
     (λ p. record { files = p.0; failing = p.1.0; calls = p.1.1.0; faults = p.1.1.1.0; replies = p.1.1.1.1 })
     (λ _. refl)

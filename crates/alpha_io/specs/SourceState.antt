@@ -18,9 +18,17 @@ pub record SourceState : Type 0 where
 abbrev pub source_code : Coded SourceState
 source_code =
     code_by (List ℕ × (ℕ × (List ℕ × (ℕ × (ℕ × List Reply)))))
-    (coded× (coded_list coded_ℕ) (coded× coded_ℕ (coded× (coded_list coded_ℕ) (coded× coded_ℕ (coded× coded_ℕ replies_code)))))
+    (coded× (coded_list coded_ℕ)
+    (coded× coded_ℕ (coded× (coded_list coded_ℕ) (coded× coded_ℕ (coded× coded_ℕ replies_code)))))
     (λ s. (s.left, (s.most, (s.failing, (s.calls, (s.faults, s.replies))))))
-    (λ p. record { left = p.0; most = p.1.0; failing = p.1.1.0; calls = p.1.1.1.0; faults = p.1.1.1.1.0; replies = p.1.1.1.1.1 })
+    (λ p. record {
+      left = p.0;
+      most = p.1.0;
+      failing = p.1.1.0;
+      calls = p.1.1.1.0;
+      faults = p.1.1.1.1.0;
+      replies = p.1.1.1.1.1;
+    })
     (λ _. refl)
 
 -- one of these bytes, before any call
@@ -43,4 +51,5 @@ pub record SureSourceState : Type 0 where
 
 abbrev pub sure_source_code : Coded SureSourceState
 sure_source_code =
-    code_by (List ℕ × List Reply) (coded× (coded_list coded_ℕ) replies_code) (λ s. (s.left, s.replies)) (λ p. record { left = p.0; replies = p.1 }) (λ _. refl)
+    code_by (List ℕ × List Reply) (coded× (coded_list coded_ℕ) replies_code) (λ s. (s.left, s.replies))
+    (λ p. record { left = p.0; replies = p.1 }) (λ _. refl)

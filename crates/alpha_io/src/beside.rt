@@ -165,8 +165,8 @@ fn is_own<R: Files>(files: &R, found: &Metadata) -> io::Result<bool> {
     }
 }
 
-/// A new file in the folder of a name, or `None` where the folder takes none, or its name would be too long. Nobody else
-/// may open it where it is to be `private`. Its name is put into `path`.
+/// A new file in the folder of a name, or `None` where the folder takes none, or its name would be too long. Nobody
+/// else may open it where it is to be `private`. Its name is put into `path`.
 #[inline(never)]
 pub(crate) fn new_file<R: Files + RandomSource>(
     files: &R,
@@ -174,16 +174,16 @@ pub(crate) fn new_file<R: Files + RandomSource>(
     is_private: bool,
     path: &mut Name,
 ) -> io::Result<Option<R::File>> {
-    let mut how = OpenOptions::new();
-    how.write(true).create_new(true);
+    let mut options = OpenOptions::new();
+    options.write(true).create_new(true);
     if is_private {
-        how.mode(0o600);
+        options.mode(0o600);
     }
     for _ in 0..MOST_NAMES {
         if !is_named(files, out, path)? {
             return Ok(None);
         }
-        match how.open(files, path.as_str()) {
+        match options.open(files, path.as_str()) {
             Ok(file) => return Ok(Some(file)),
             Err(error) => match error.kind() {
                 ErrorKind::AlreadyExists => {}
@@ -195,8 +195,8 @@ pub(crate) fn new_file<R: Files + RandomSource>(
     Err(Error::from(ErrorKind::AlreadyExists))
 }
 
-// Draws a name in the folder of another one, `.alpha-keep-` and a number that nobody can foresee. `false` where it would
-// be too long.
+// Draws a name in the folder of another one, `.alpha-keep-` and a number that nobody can foresee. `false` where it
+// would be too long.
 fn is_named<R: RandomSource>(files: &R, out: &str, path: &mut Name) -> io::Result<bool> {
     let mut drawn = [0; 8];
     files.fill_bytes(&mut drawn)?;

@@ -1,19 +1,21 @@
-// How a file is kept on a file system. A keep makes these calls, in this order. Those by a name may meet another file than
-// the call before, which somebody has put there; those by a descriptor can't.
+// How a file is kept on a file system. A keep makes these calls, in this order. Those by a name may meet another file
+// than the call before, which somebody has put there; those by a descriptor can't.
 //
-// 1. OUT is opened for writing. The system follows its links, and knows whose it follows in a shared folder. What is asked
-//    of the file, and what is written in place, goes by this descriptor.
-// 2. `place_of` follows the links again, to the name that is to be replaced, and sees that it is a name of that very file;
-//    else the keep begins anew. Whoever changes it later may write its folder, and so could replace OUT himself.
+// 1. OUT is opened for writing. The system follows its links, and knows whose it follows in a shared folder. What is
+//    asked of the file, and what is written in place, goes by this descriptor.
+// 2. `place_of` follows the links again, to the name that is to be replaced, and sees that it is a name of that very
+//    file; else the keep begins anew. Whoever changes it later may write its folder, and so could replace OUT himself.
 // 3. The folder is opened. What is asked of it, and its storing, goes by this descriptor.
-// 4. The new file is made under a name that was drawn, and that nothing has: so nothing that is there is opened, and no link
-//    followed. Its owner, group, mode, bytes and storing go by its descriptor: whatever takes its name gets none of them.
-// 5. It is renamed, and replaces what has the name of OUT by then. A rename follows no link. Whoever has put another file
-//    under the new name may write the folder, and so could put that file under the name of OUT himself.
+// 4. The new file is made under a name that was drawn, and that nothing has: so nothing that is there is opened, and no
+//    link followed. Its owner, group, mode, bytes and storing go by its descriptor: whatever takes its name gets none
+//    of them.
+// 5. It is renamed, and replaces what has the name of OUT by then. A rename follows no link. Whoever has put another
+//    file under the new name may write the folder, and so could put that file under the name of OUT himself.
 // 6. Where a call fails the name of the new file is removed, which follows no link either.
 //
-// So nobody gets access by a swap: none is given by a name, and a new file is given no more than its old one had. One who may
-// write a folder above can move all of this to another one, and make OUT there a file of his. docs/commands.md says so.
+// So nobody gets access by a swap: none is given by a name, and a new file is given no more than its old one had. One
+// who may write a folder above can move all of this to another one, and make OUT there a file of his. docs/commands.md
+// says so.
 
 use crate::Failed;
 use crate::beside::{Beside, folder_of, keeps_names, new_file};
@@ -126,7 +128,7 @@ impl<R: Files + RandomSource + AllocGlobal> Keep<'_, R> {
     fn write_in_place(&self, old: Option<Old<R::File>>) -> io::Result<()> {
         let Old { mut file, found } = match old {
             Some(old) => old,
-            None => self.made()?,
+            None => self.created()?,
         };
         if self.spares_streams && is_stream(self.files, &found) {
             return Err(Error::from(ErrorKind::ResourceBusy));
@@ -140,17 +142,20 @@ impl<R: Files + RandomSource + AllocGlobal> Keep<'_, R> {
     }
 
     // The file of the name, made by the system where it isn't there, as behind a link that leads to no file.
-    fn made(&self) -> io::Result<Old<R::File>> {
-        let mut how = OpenOptions::new();
-        let file = how.write(true).create(true).open(self.files, self.name)?;
+    fn created(&self) -> io::Result<Old<R::File>> {
+        let mut options = OpenOptions::new();
+        let file = options
+            .write(true)
+            .create(true)
+            .open(self.files, self.name)?;
         let found = OpenFile::metadata(&file)?;
         Ok(Old { file, found })
     }
 }
 
-// Whether a new file of that mode may give somebody more than the old one did. Access lists can't be seen here: with one
-// the bits of the group are only the most that it gives to some, and with a default list of the folder the new file gives
-// as much to others. Where all may do whatever those bits let, neither gives anyone more.
+// Whether a new file of that mode may give somebody more than the old one did. Access lists can't be seen here: with
+// one the bits of the group are only the most that it gives to some, and with a default list of the folder the new file
+// gives as much to others. Where all may do whatever those bits let, neither gives anyone more.
 fn may_give_more(mode: u32) -> bool {
     (mode >> 3) & 7 & !mode != 0
 }

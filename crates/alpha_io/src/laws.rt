@@ -1,10 +1,10 @@
 ghost use Rattle.std.specs.Prelude.{◌≡◌, ◌⊎◌, ℕ, ◌<◌, ◌≤◌, List, [], ◌++◌, length, Option, Some};
 ghost use Rattle.std.specs.Prelude.{IsOkAnd, IsErrOf};
 ghost use Rattle.std.specs.Io.KnownBytes.{Appends, Keeps};
-ghost use Rattle.alpha_io.specs.Faults.{Rose, Calm, next_count};
+ghost use Rattle.alpha_io.specs.Faults.{Faulted, NoFault, next_count};
 ghost use Rattle.alpha_io.specs.Files.{Files, HasFile, Lacks, KeepsFiles, KeepsOtherFiles};
 ghost use Rattle.alpha_io.specs.ReadWhole.{ReadCause, Reading};
-ghost use Rattle.alpha_io.specs.Sunk.{Sunk, Puts, Partly, HasFailed, IsCalm};
+ghost use Rattle.alpha_io.specs.SinkChange.{SinkChange, Puts, WritesPartly, HasFailed, HasNoFault};
 ghost use Rattle.alpha_io.specs.Written.{WritesPrefix};
 
 use crate::ReadFault;
@@ -13,18 +13,18 @@ use crate::ReadFault;
 /// looks before, and is not calm. One that doesn't fall is calm over two calls exactly where it is
 /// over each.
 pub fn laws_of_counts()
-    ensures next { (before : ℕ) → Rose before (next_count before) }
-    ensures later { (before middle now : ℕ) → Rose before middle → middle ≤ now → Rose before now }
-    ensures earlier { (before middle now : ℕ) → before ≤ middle → Rose middle now
-        → Rose before now }
-    ensures apart { (before now : ℕ) → Rose before now → Calm before now → ⊥ }
-    ensures one_of_two { (before now : ℕ) → now ≡ before → ¬ Rose before now → Calm before now }
+    ensures next { (before : ℕ) → Faulted before (next_count before) }
+    ensures later { (before middle now : ℕ) → Faulted before middle → middle ≤ now → Faulted before now }
+    ensures earlier { (before middle now : ℕ) → before ≤ middle → Faulted middle now
+        → Faulted before now }
+    ensures apart { (before now : ℕ) → Faulted before now → NoFault before now → ⊥ }
+    ensures one_of_two { (before now : ℕ) → now ≡ before → ¬ Faulted before now → NoFault before now }
     ensures first { (before middle now : ℕ) → before ≤ middle → middle ≤ now
-        → Calm before now → Calm before middle }
+        → NoFault before now → NoFault before middle }
     ensures second { (before middle now : ℕ) → before ≤ middle → middle ≤ now
-        → Calm before now → Calm middle now }
-    ensures both { (before middle now : ℕ) → Calm before middle → Calm middle now
-        → Calm before now }
+        → NoFault before now → NoFault middle now }
+    ensures both { (before middle now : ℕ) → NoFault before middle → NoFault middle now
+        → NoFault before now }
 {}
 
 /// The laws of written prefixes: none and all of some bytes are prefixes of them, and a prefix of
@@ -53,11 +53,11 @@ pub fn laws_of_sinks()
         → Puts (record { old = old; new = new; before = before; now = now }) (xs ++ ys) }
     ensures part { (old middle new : Option (List ℕ)) (before between now : ℕ) (xs ys : List ℕ)
         → Puts (record { old = old; new = middle; before = before; now = between }) xs
-        → Partly (record { old = middle; new = new; before = between; now = now }) ys
-        → Partly (record { old = old; new = new; before = before; now = now }) (xs ++ ys) }
-    ensures front { (s : Sunk) (xs ys : List ℕ) → Puts s xs → Partly s (xs ++ ys) }
-    ensures more { (s : Sunk) (xs ys : List ℕ) → Partly s xs → Partly s (xs ++ ys) }
-    ensures apart { (s : Sunk) → HasFailed s → IsCalm s → ⊥ }
+        → WritesPartly (record { old = middle; new = new; before = between; now = now }) ys
+        → WritesPartly (record { old = old; new = new; before = before; now = now }) (xs ++ ys) }
+    ensures front { (s : SinkChange) (xs ys : List ℕ) → Puts s xs → WritesPartly s (xs ++ ys) }
+    ensures more { (s : SinkChange) (xs ys : List ℕ) → WritesPartly s xs → WritesPartly s (xs ++ ys) }
+    ensures apart { (s : SinkChange) → HasFailed s → HasNoFault s → ⊥ }
 {}
 
 /// The laws of a shelf's files over calls in a row: that all files stayed is an equivalence, and
@@ -83,10 +83,10 @@ pub fn laws_of_reading()
         → IsErrOf answer ReadFault.Shelf ⊎ IsErrOf answer ReadFault.NoMemory }
     ensures within { (files : List ℕ → Option (List ℕ)) (name file : List ℕ)
         (limit before now : ℕ) (answer : Reading) → files name ≡ Some file → length file ≤ limit
-        → Calm before now → ReadCause (Some files) name limit before now answer
+        → NoFault before now → ReadCause (Some files) name limit before now answer
         → IsOkAnd answer (λ v. v.items ≡ file) ⊎ IsErrOf answer ReadFault.NoMemory }
     ensures past { (files : List ℕ → Option (List ℕ)) (name file : List ℕ)
         (limit before now : ℕ) (answer : Reading) → files name ≡ Some file → limit < length file
-        → Calm before now → ReadCause (Some files) name limit before now answer
+        → NoFault before now → ReadCause (Some files) name limit before now answer
         → IsErrOf answer ReadFault.TooLarge ⊎ IsErrOf answer ReadFault.NoMemory }
 {}

@@ -19,7 +19,7 @@
 //! is told changes only as an `Ok` says; a `keep` that failed may leave anything under its name.
 //!
 //! `DiskShelf` promises no more, and does more: a file is replaced whole or stays as it was. `src/replace.rt` has
-//! the order of the calls, whose clause over calls that are told says so by `specs/Keeping.antt`; `src/keep.rt`
+//! the order of the calls, whose clause over calls that are told says so by `specs/FileReplacement.antt`; `src/keep.rt`
 //! makes these calls on a file system, and says which files are written in place. `src/again.rt` makes calls again.
 //!
 //! The functions of `src/laws.rt` do nothing: their contracts are the laws over calls in a row.
@@ -28,8 +28,8 @@
 //! that stayed. [`laws_of_reading`]: what [`read_whole`] answers of files that are told.
 //!
 //! `specs/History.antt` has the words on what was answered, `specs/Faults.antt` those on counts,
-//! `specs/Written.antt` and `specs/Sunk.antt` those on what was written, `specs/Files.antt` and
-//! `specs/Shelved.antt` those on files, and `specs/ReadWhole.antt` the answers of `read_whole`. The
+//! `specs/Written.antt` and `specs/SinkChange.antt` those on what was written, `specs/Files.antt` and
+//! `specs/ShelfChange.antt` those on files, and `specs/ReadWhole.antt` the answers of `read_whole`. The
 //! other files say what a clause sees of an object.
 #![tactic(auto)]
 

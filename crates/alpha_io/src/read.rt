@@ -1,4 +1,5 @@
-ghost use Rattle.std.specs.Prelude.{◌≡◌, ◌⊎◌, ◌^◌, ◌<◌, ◌≤◌, ◌++◌, ◌+◌, ◌∷◌, ℕ, List, [], Some, None, take, length, vec_len, IfOk, IfErr};
+ghost use Rattle.std.specs.Prelude.{◌≡◌, ◌⊎◌, ◌^◌, ◌<◌, ◌≤◌, ◌++◌, ◌+◌, ◌∷◌, ℕ, List, [], Some, None, take, length};
+ghost use Rattle.std.specs.Prelude.{vec_len, IfOk, IfErr};
 ghost use Rattle.std.specs.Io.{ReadsAtMost};
 ghost use Rattle.alpha_io.specs.History.{Piece, IsReadWhole};
 ghost use Rattle.alpha_io.specs.Files.{Lacks, KeepsFiles, IfTold, IsPiece};
@@ -62,7 +63,7 @@ pub fn read_whole<H: Shelf>(
     ensures cause { ReadCause (H.files shelf.old) name.now limit
         (H.faults shelf.old) (H.faults shelf.new) result }
     ensures later { H.faults shelf.old ≤ H.faults shelf.new }
-    ensures calm { Lacks (H.files shelf.old) name.now → H.faults shelf.new ≡ H.faults shelf.old }
+    ensures faults_unchanged { Lacks (H.files shelf.old) name.now → H.faults shelf.new ≡ H.faults shelf.old }
     ensures files { KeepsFiles (H.files shelf.old) (H.files shelf.new) }
     ensures takes { H.takes shelf.new ≡ H.takes shelf.old }
 {
@@ -105,7 +106,7 @@ fn append_piece<H: Shelf>(
     ensures cause { PieceCause (H.files shelf.old) name.now
         (H.faults shelf.old) (H.faults shelf.new) result }
     ensures later { H.faults shelf.old ≤ H.faults shelf.new }
-    ensures calm { Lacks (H.files shelf.old) name.now → H.faults shelf.new ≡ H.faults shelf.old }
+    ensures faults_unchanged { Lacks (H.files shelf.old) name.now → H.faults shelf.new ≡ H.faults shelf.old }
 {
     let at = bytes.len() as u64;
     let count = shelf.piece(name, at, buffer)?;

@@ -1,5 +1,6 @@
 -- The front of a module, both ways.
-use Rattle.std.proofs.Common.{◌≡◌, ℕ, ◌+◌, ◌^◌, ◌<◌, ◌≤◌, Bool, true, false, ◌||◌, not, nat_lt, nat_eq, List, ◌++◌, length, drop, Option, None, Some, refl, ap, subst, ◌∙◌, append_assoc, arith}
+use Rattle.std.proofs.Common.{◌≡◌, ℕ, ◌+◌, ◌^◌, ◌<◌, ◌≤◌, Bool, true, false, ◌||◌, not, nat_lt, nat_eq, List, ◌++◌}
+use Rattle.std.proofs.Common.{length, drop, Option, None, Some, refl, ap, subst, ◌∙◌, append_assoc, arith}
 use Rattle.std.specs.Prelude.{Result, Ok, Err, cond}
 use Rattle.std.specs.List.{starts_with}
 use Rattle.std.specs.Option.{option_map_or}
@@ -16,7 +17,7 @@ use Rattle.alpha_link.specs.declared.fault.ModuleFault.TheVariants.{Header, Size
 use Rattle.alpha_link.specs.declared.header.Sizes.{Sizes}
 use Rattle.alpha_link.specs.Reading.{Read}
 use Rattle.alpha_link.specs.Header.{magic, sizes_in, bad_size, sized, header_at, header_bytes}
-use Rattle.alpha_link.proofs.Results.{gave, unless_err, ok_pair}
+use Rattle.alpha_link.proofs.Results.{ok_of, unless_err, ok_pair}
 
 -- no size is too great, and each fits its bytes
 pub record AreSizes (z : Sizes) : Type 0 where
@@ -26,12 +27,18 @@ pub record AreSizes (z : Sizes) : Type 0 where
   pub relocations : z.relocations < 2 ^ 32
 
 bad_size-AreSizes : (z : Sizes) → AreSizes z → bad_size z ≡ None
-bad_size-AreSizes z fit = rw (le-leb z.words 262144 fit.words, le-leb z.filled 16777216 (omega (arith, fit.size)), le-leb (z.filled + z.zeroed) 16777216 fit.size) refl
+bad_size-AreSizes z fit = rw (
+  le-leb z.words 262144 fit.words,
+  le-leb z.filled 16777216 (omega (arith, fit.size)),
+  le-leb (z.filled + z.zeroed) 16777216 fit.size,
+) refl
 
 no_bad_size : (z : Sizes) → bad_size z ≡ None → (z.words ≤ 262144) × (z.filled + z.zeroed ≤ 16777216)
 no_bad_size z e = (grind (arith, nat_tests), grind (arith, nat_tests))
 
-sized_ok : (z y : Sizes) (behind rest : List ℕ) (o : Option ℕ) → bad_size z ≡ o → option_map_or {U = Read Sizes} (λ which. Err (Size which)) o (Ok (z, behind)) ≡ Ok (y, rest) → (bad_size z ≡ None) × (z ≡ y) × (behind ≡ rest)
+sized_ok : (z y : Sizes) (behind rest : List ℕ) (o : Option ℕ) → bad_size z ≡ o
+    → option_map_or {U = Read Sizes} (λ which. Err (Size which)) o (Ok (z, behind)) ≡ Ok (y, rest)
+    → (bad_size z ≡ None) × (z ≡ y) × (behind ≡ rest)
 sized_ok z y behind rest None is e = let p = ok_pair z y behind rest e in (is, p.0, p.1)
 sized_ok z y behind rest (Some n) is e = absurd cc
 
@@ -40,8 +47,11 @@ abbrev front_is : List ℕ → Type 0
 front_is bytes = bytes ≡ header_bytes (sizes_in bytes) ++ drop 28 bytes
 
 -- the five numbers behind the magic
-numbers_front : (bytes : List ℕ) → IsBytes bytes → 28 ≤ length bytes → drop 8 bytes ≡ longword (longword_at 8 bytes) ++ (longword (longword_at 12 bytes) ++ (longword (longword_at 16 bytes) ++ (longword (longword_at 20 bytes) ++ (longword (longword_at 24 bytes) ++ drop 28 bytes))))
-numbers_front bytes fits long =
+sizes_in-prefix : (bytes : List ℕ) → IsBytes bytes → 28 ≤ length bytes
+    → drop 8 bytes
+    ≡ longword (longword_at 8 bytes) ++ (longword (longword_at 12 bytes) ++ (longword (longword_at 16 bytes)
+    ++ (longword (longword_at 20 bytes) ++ (longword (longword_at 24 bytes) ++ drop 28 bytes))))
+sizes_in-prefix bytes fits long =
     drop-longword bytes 8 12 fits (omega arith) refl
     ∙ ap (λ (t : List ℕ). longword (longword_at 8 bytes) ++ t) (drop-longword bytes 12 16 fits (omega arith) refl
     ∙ ap (λ (t : List ℕ). longword (longword_at 12 bytes) ++ t) (drop-longword bytes 16 20 fits (omega arith) refl
@@ -54,8 +64,9 @@ five a b c d e f = simp append_assoc
 header_front : (bytes : List ℕ) → IsBytes bytes → 28 ≤ length bytes → bytes ≡ magic ++ drop 8 bytes → front_is bytes
 unfolding header_bytes
 header_front bytes fits long begins =
-    begins ∙ ap (λ (t : List ℕ). magic ++ t) (numbers_front bytes fits long
-    ∙ five (longword (longword_at 8 bytes)) (longword (longword_at 12 bytes)) (longword (longword_at 16 bytes)) (longword (longword_at 20 bytes)) (longword (longword_at 24 bytes)) (drop 28 bytes))
+    begins ∙ ap (λ (t : List ℕ). magic ++ t) (sizes_in-prefix bytes fits long
+    ∙ five (longword (longword_at 8 bytes)) (longword (longword_at 12 bytes)) (longword (longword_at 16 bytes))
+    (longword (longword_at 20 bytes)) (longword (longword_at 24 bytes)) (drop 28 bytes))
 
 -- neither test refuses
 neither : (a b : Bool) → (a || not b) ≡ false → (a ≡ false) × (b ≡ true)
@@ -63,15 +74,22 @@ neither true b e = absurd cc
 neither false true e = (refl, refl)
 neither false false e = absurd cc
 
-pub header_takes : (bytes : List ℕ) (z : Sizes) (rest : List ℕ) → IsBytes bytes → header_at bytes ≡ Ok (z, rest) → AreSizes z × (bytes ≡ header_bytes z ++ rest) × IsBytes rest
+pub header_takes : (bytes : List ℕ) (z : Sizes) (rest : List ℕ) → IsBytes bytes → header_at bytes ≡ Ok (z, rest)
+    → AreSizes z × (bytes ≡ header_bytes z ++ rest) × IsBytes rest
 unfolding header_at
 header_takes bytes z rest fits e =
-    let a = unless_err (nat_lt (length bytes) 28 || not (starts_with nat_eq bytes magic)) Header (sized (sizes_in bytes) (drop 28 bytes)) (z, rest) e in
+    let a = unless_err (nat_lt (length bytes) 28 || not (starts_with nat_eq bytes magic)) Header
+    (sized (sizes_in bytes) (drop 28 bytes)) (z, rest) e in
     let b = neither (nat_lt (length bytes) 28) (starts_with nat_eq bytes magic) a.0 in
     let long : 28 ≤ length bytes = ltb-false (length bytes) 28 b.0 in
     let c = sized_ok (sizes_in bytes) z (drop 28 bytes) rest (bad_size (sizes_in bytes)) refl a.1 in
     let sizes = no_bad_size (sizes_in bytes) c.0 in
-    let good : AreSizes (sizes_in bytes) = record { words = sizes.0; size = sizes.1; symbols = longword_at-lt 20 bytes fits; relocations = longword_at-lt 24 bytes fits } in (
+    let good : AreSizes (sizes_in bytes) = record {
+      words = sizes.0;
+      size = sizes.1;
+      symbols = longword_at-lt 20 bytes fits;
+      relocations = longword_at-lt 24 bytes fits;
+    } in (
       subst AreSizes c.1 good,
       header_front bytes fits long ((starts_is Decides-eqb bytes magic _ refl).0 b.1)
           ∙ (ap (λ (y : Sizes). header_bytes y ++ drop 28 bytes) c.1 ∙ ap (λ (t : List ℕ). header_bytes z ++ t) c.2),
@@ -102,7 +120,8 @@ length-header : (z : Sizes) → length (header_bytes z) ≡ 28
 unfolding header_bytes longword
 length-header z = refl
 
-passes : {X : Type 0} (a b : Bool) (d : ModuleFault) (r : Result X ModuleFault) → a ≡ false → b ≡ true → cond (a || not b) (Err d) r ≡ r
+passes : {X : Type 0} (a b : Bool) (d : ModuleFault) (r : Result X ModuleFault) → a ≡ false → b ≡ true
+    → cond (a || not b) (Err d) r ≡ r
 passes false true d r p q = refl
 passes true b d r p q = absurd cc
 passes false false d r p q = absurd cc
@@ -111,8 +130,11 @@ pub header_again : (z : Sizes) (rest : List ℕ) → AreSizes z → header_at (h
 unfolding header_at
 header_again z rest fit =
     let t = header_bytes z ++ rest in
-    let long : nat_lt (length t) 28 ≡ false = le-ltb _ _ (omega (arith, length-append (header_bytes z) rest, length-header z)) in
-    passes (nat_lt (length t) 28) (starts_with nat_eq t magic) Header (sized (sizes_in t) (drop 28 t)) long (magic_again z rest)
+    let long : nat_lt (length t) 28 ≡ false =
+    le-ltb _ _ (omega (arith, length-append (header_bytes z) rest, length-header z)) in
+    passes (nat_lt (length t) 28) (starts_with nat_eq t magic) Header (sized (sizes_in t) (drop 28 t)) long
+    (magic_again z rest)
     ∙ (ap (λ (y : Sizes). sized y (drop 28 t)) (sizes_again z rest fit)
-    ∙ (ap (λ (o : Option ℕ). option_map_or (λ which. Err (Size which)) o (gave (z, drop 28 t))) (bad_size-AreSizes z fit)
-    ∙ ap (λ (l : List ℕ). gave (z, l)) (behind_again z rest)))
+    ∙ (ap (λ (o : Option ℕ). option_map_or (λ which. Err (Size which)) o (ok_of (z, drop 28 t)))
+    (bad_size-AreSizes z fit)
+    ∙ ap (λ (l : List ℕ). ok_of (z, l)) (behind_again z rest)))

@@ -1,5 +1,6 @@
 -- The front of a module: its magic and its sizes.
-use Rattle.std.specs.Prelude.{ℕ, ◌+◌, ◌||◌, not, nat_eq, nat_lt, nat_le, List, [], ◌∷◌, ◌++◌, length, drop, Option, Ok, Err, if◌then◌else◌}
+use Rattle.std.specs.Prelude.{ℕ, ◌+◌, ◌||◌, not, nat_eq, nat_lt, nat_le, List, [], ◌∷◌, ◌++◌, length, drop, Option, Ok}
+use Rattle.std.specs.Prelude.{Err, if◌then◌else◌}
 use Rattle.std.specs.List.{starts_with}
 use Rattle.std.specs.Option.{option_map_or}
 use Rattle.alpha_image.specs.Layout.{longword}
@@ -40,4 +41,7 @@ header_at bytes =
     else sized (sizes_in bytes) (drop 28 bytes)
 
 unfoldable pub header_bytes : Sizes → List ℕ
-header_bytes z = magic ++ (longword z.words ++ (longword z.filled ++ (longword z.zeroed ++ (longword z.symbols ++ longword z.relocations))))
+header_bytes z =
+    magic
+    ++ (longword z.words
+    ++ (longword z.filled ++ (longword z.zeroed ++ (longword z.symbols ++ longword z.relocations))))

@@ -8,12 +8,12 @@ pub mod Spelled
 pub mod Module
 pub mod Alike
 pub mod Linked
-pub mod Rising
+pub mod SortedNames
 pub mod NameKeys
 pub mod Digits
 pub mod Made
 pub mod Numbered
-pub mod Standings
+pub mod GlobalSymbols
 pub mod Starts
 pub mod Names
 pub mod Addresses

@@ -1,5 +1,7 @@
 -- The image that modules link to, or why they link to none.
-use Rattle.std.specs.Prelude.{ℕ, ℤ, pos, ◌+ℤ◌, ◌+◌, ◌-◌, ◌*◌, ◌/◌, ◌&&◌, ◌||◌, Bool, true, false, not, nat_lt, nat_le, List, [], ◌∷◌, ◌++◌, length, map, replicate, slice_get, slice_set, Option, None, Some, is_some, is_none, position, Result, Ok, Err, if◌then◌else◌}
+use Rattle.std.specs.Prelude.{ℕ, ℤ, pos, ◌+ℤ◌, ◌+◌, ◌-◌, ◌*◌, ◌/◌, ◌&&◌, ◌||◌, Bool, true, false, not, nat_lt, nat_le}
+use Rattle.std.specs.Prelude.{List, [], ◌∷◌, ◌++◌, length, map, replicate, slice_get, slice_set, Option, None, Some}
+use Rattle.std.specs.Prelude.{is_some, is_none, position, Result, Ok, Err, if◌then◌else◌}
 use Rattle.std.specs.Option.{option_map, option_map_or, option_and_then, option_or}
 use Rattle.std.specs.List.{flat_map, filter_map}
 use Rattle.std.specs.Str.{bytes_eq}
@@ -8,10 +10,11 @@ use Rattle.alpha_table.specs.Decoded.{decoded}
 use Rattle.alpha_image.specs.declared.version.Version.TheVariants.{One}
 use Rattle.alpha_image.specs.Numbers.{Numbers}
 use Rattle.alpha_image.specs.FieldTests.{least_bad_field}
-use Rattle.alpha_asm.specs.declared.statement.Use.{Use}
+use Rattle.alpha_asm.specs.declared.statement.RelocField.{RelocField}
 use Rattle.alpha_asm.specs.declared.patch.Displacement.{Displacement}
 use Rattle.alpha_asm.specs.Layout.{first, padding}
-use Rattle.alpha_asm.specs.Program.{Program, program_with, code_base, data_base, stack_bytes, reached, displaced, quadword_of}
+use Rattle.alpha_asm.specs.Program.{Program, program_with, code_base, data_base, stack_bytes, reached, displaced}
+use Rattle.alpha_asm.specs.Program.{quadword_of}
 use Rattle.alpha_asm.specs.Patches.{overlaid}
 use Rattle.alpha_asm.specs.Unlinked.{takes}
 use Rattle.alpha_link.specs.declared.fault.LinkFault.{LinkFault}
@@ -77,14 +80,15 @@ abbrev pub target : List (Option ℕ) → Relocation → Option ℤ
 target addresses r =
     option_map (λ a. pos a +ℤ r.addend) (option_and_then (λ address. address) (slice_get addresses r.symbol))
 
-abbrev pub use_of : RelocationKind → Option Use
+abbrev pub use_of : RelocationKind → Option RelocField
 use_of (kinds.Insn by) = Some by
 use_of kinds.Quad = None
 
 -- the displacement that it puts in, if it reaches
 abbrev pub displacement : List (Option ℕ) → Located → Relocation → Option Displacement
 displacement addresses l r =
-    option_and_then (λ by. option_and_then (reached by (code_base + 4 * l.words + r.offset)) (target addresses r)) (use_of r.kind)
+    option_and_then (λ by. option_and_then (reached by (code_base + 4 * l.words + r.offset)) (target addresses r))
+    (use_of r.kind)
 
 -- the quadword that it puts in, if it is one
 abbrev pub quadword_at_kind : RelocationKind → Option ℤ → Option ℕ
@@ -102,7 +106,8 @@ insn_with kinds.Quad d insn = insn
 -- the code with a displacement put in at a place
 abbrev pub code_at : RelocationKind → ℕ → Option Displacement → List Form → List Form
 code_at kind place None code = code
-code_at kind place (Some d) code = option_map_or (λ insn. slice_set code place (insn_with kind d insn)) (slice_get code place) code
+code_at kind place (Some d) code =
+    option_map_or (λ insn. slice_set code place (insn_with kind d insn)) (slice_get code place) code
 
 abbrev pub code_after : List (Option ℕ) → Located → List Relocation → List Form → List Form
 code_after addresses l [] code = code
@@ -166,28 +171,31 @@ is_defined sections.Undefined = false
 abbrev pub repeated : List Located → List Located → Option (ℕ × ℕ)
 repeated earlier [] = None
 repeated earlier (l ∷ ls) =
-    option_or (symbol_in (λ _ s. is_defined s.section && is_some (address_of earlier s.name)) l) (repeated (earlier ++ l ∷ []) ls)
+    option_or (symbol_in (λ _ s. is_defined s.section && is_some (address_of earlier s.name)) l)
+    (repeated (earlier ++ l ∷ []) ls)
 
 -- the least symbol that no module defines
 abbrev pub missing : List Located → Option (ℕ × ℕ)
 missing ls = first (symbol_in (λ _ s. is_none (address_of ls s.name))) ls
 
 -- whether what a relocation needs is there
-abbrev pub is_met : List (Option ℕ) → Located → Relocation → Bool
-is_met addresses l r = is_some (displacement addresses l r) || is_some (quadword addresses r)
+abbrev pub is_in_range : List (Option ℕ) → Located → Relocation → Bool
+is_in_range addresses l r = is_some (displacement addresses l r) || is_some (quadword addresses r)
 
 -- the least relocation of a module that doesn't fit, with the module
-abbrev pub unmet_in : List (Option ℕ) → Located → Option (ℕ × ℕ)
-unmet_in addresses l = option_map (λ n. (l.number, n)) (position (λ r. not (is_met addresses l r)) l.parts.relocations)
+abbrev pub out_of_range_in : List (Option ℕ) → Located → Option (ℕ × ℕ)
+out_of_range_in addresses l =
+    option_map (λ n. (l.number, n)) (position (λ r. not (is_in_range addresses l r)) l.parts.relocations)
 
 -- the least relocation that doesn't fit
-abbrev pub unmet : List Located → Option (ℕ × ℕ)
-unmet ls = first (λ l. unmet_in (addresses_of ls l) l) ls
+abbrev pub out_of_range : List Located → Option (ℕ × ℕ)
+out_of_range ls = first (λ l. out_of_range_in (addresses_of ls l) l) ls
 
 -- the address of an entry, which is that of a code word
 abbrev pub entry_of : List Located → List ℕ → Option ℕ
 entry_of ls name =
-    option_and_then (λ a. if nat_le code_base a && nat_lt a (code_base + 4 * words_in ls) then Some a else None) (address_of ls name)
+    option_and_then (λ a. if nat_le code_base a && nat_lt a (code_base + 4 * words_in ls) then Some a else None)
+    (address_of ls name)
 
 -- the refusal if there is one
 abbrev pub unless_refused : Option LinkFault → Result Program LinkFault → Result Program LinkFault
@@ -198,7 +206,7 @@ abbrev pub linked_at : List Located → Option ℕ → Result Program LinkFault
 linked_at ls None = Err Entry
 linked_at ls (Some entry) =
     unless_refused (option_map ImageField (least_bad_field (numbers_with ls entry)))
-    (unless_refused (option_map (λ p. Reach p.0 p.1) (unmet ls))
+    (unless_refused (option_map (λ p. Reach p.0 p.1) (out_of_range ls))
     (Ok (program_with One (numbers_with ls entry) (flat_map (code_of ls) ls) (data_in ls ls))))
 
 -- the program of the image that modules link to, with a name as its entry, or the first refusal

@@ -7,7 +7,7 @@ use Rattle.alpha_asm.specs.declared.label.Labels.{Labels}
 use Rattle.alpha_asm.specs.declared.patch.Patch.{Patch}
 use Rattle.alpha_asm.specs.declared.place.Section.{Section}
 use Rattle.alpha_asm.specs.declared.place.Section.TheVariants as sides
-use Rattle.alpha_asm.specs.Labels.{spot_named, label_names}
+use Rattle.alpha_asm.specs.Labels.{location_named, label_names}
 use Rattle.alpha_asm.specs.Patches.{Fix, fix_of}
 use Rattle.alpha_link.specs.declared.keyed.KeyedName.{KeyedName}
 use Rattle.alpha_link.specs.declared.relocation.Relocation.{Relocation}
@@ -20,16 +20,19 @@ texts names = map (λ n. n.now) names
 
 -- The names of labels in the order of their numbers, and behind them names without a definition.
 abbrev pub IsNumbered : Labels → List (List ℕ) → Type 0
-IsNumbered labels names = (more : List (List ℕ)) × (names ≡ label_names labels ++ more) × AllByRecursion (λ n. spot_named labels n ≡ None) more
+IsNumbered labels names =
+    (more : List (List ℕ)) × (names ≡ label_names labels ++ more)
+    × AllByRecursion (λ n. location_named labels n ≡ None) more
 
 -- the relocation of an address that a section needs, if it does, by the number of its label
 abbrev pub relocation_at : Section → Fix → ℕ → Option Relocation
 relocation_at side f number =
-    option_map (λ kind. relocation_with kind (offset_in f.at f.name.need) f.name.reference.offset number) (kind_in side f.name.need)
+    option_map (λ kind. relocation_with kind (offset_in f.at f.name.target) f.name.reference.offset number)
+    (kind_in side f.name.target)
 
 -- no relocation can say so: its offset doesn't fit 32 bits, or what it adds is no addend
 abbrev pub IsTooGreat : Fix → Type 0
-IsTooGreat f = (2 ^ 32 ≤ offset_in f.at f.name.need) ⊎ (is_addend f.name.reference.offset ≡ false)
+IsTooGreat f = (2 ^ 32 ≤ offset_in f.at f.name.target) ⊎ (is_addend f.name.reference.offset ≡ false)
 
 -- those of some addresses, each beside the number of its label
 abbrev pub relocations_at : Section → List Fix → List ℕ → List Relocation
@@ -45,5 +48,7 @@ HasRank ranks rising k = (rank : ℕ) × (slice_get ranks k.number ≡ Some rank
 
 -- the relocations of the code and then those of the data, by numbers of some names
 abbrev pub ByNumbers : List (List ℕ) → List Patch → List Relocation → Type 0
-ByNumbers names ps relocations = (numbers : List ℕ) × (map (slice_get names) numbers ≡ map (λ p. Some p.to.label.now) ps)
-    × (relocations ≡ relocations_at sides.Code (map fix_of ps) numbers ++ relocations_at sides.Data (map fix_of ps) numbers)
+ByNumbers names ps relocations =
+    (numbers : List ℕ) × (map (slice_get names) numbers ≡ map (λ p. Some p.to.label.now) ps)
+    × (relocations
+    ≡ relocations_at sides.Code (map fix_of ps) numbers ++ relocations_at sides.Data (map fix_of ps) numbers)

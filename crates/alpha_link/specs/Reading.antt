@@ -1,5 +1,6 @@
 -- Bytes that are read from the front: what was read, with the bytes behind it, or the first fault.
-use Rattle.std.specs.Prelude.{◌≡◌, ◌++◌, ℕ, zero, suc, nat_lt, List, [], ◌∷◌, length, take, drop, Result, Ok, Err, if◌then◌else◌}
+use Rattle.std.specs.Prelude.{◌≡◌, ◌++◌, ℕ, zero, suc, nat_lt, List, [], ◌∷◌, length, take, drop, Result, Ok, Err}
+use Rattle.std.specs.Prelude.{if◌then◌else◌}
 use Rattle.alpha_link.specs.declared.fault.ModuleFault.{ModuleFault}
 use Rattle.alpha_link.specs.declared.fault.ModuleFault.TheVariants.{NoMemory, Cut}
 

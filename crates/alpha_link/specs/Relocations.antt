@@ -1,5 +1,7 @@
 -- Relocations: how they are read and spelled, and which are good.
-use Rattle.std.specs.Prelude.{◌<◌, ◌^◌, ◌+◌, ◌-◌, ◌/◌, ◌%◌, ℕ, ℤ, pos, negsuc, zero, suc, Bool, true, false, IsTrue, ◌&&◌, ◌==◌, nat_lt, nat_le, List, ◌∷◌, ◌++◌, length, take, drop, slice_get, slice_index, Option, None, Some, Ok, Err, if◌then◌else◌}
+use Rattle.std.specs.Prelude.{◌<◌, ◌^◌, ◌+◌, ◌-◌, ◌/◌, ◌%◌, ℕ, ℤ, pos, negsuc, zero, suc, Bool, true, false, IsTrue}
+use Rattle.std.specs.Prelude.{◌&&◌, ◌==◌, nat_lt, nat_le, List, ◌∷◌, ◌++◌, length, take, drop, slice_get, slice_index}
+use Rattle.std.specs.Prelude.{Option, None, Some, Ok, Err, if◌then◌else◌}
 use Rattle.std.specs.List.{list_all}
 use Rattle.std.specs.Option.{option_map, option_map_or, option_and_then}
 use Rattle.std.specs.Int.{w32, cast_signed, cast_unsigned}
@@ -10,8 +12,8 @@ use Rattle.alpha_link.specs.declared.fault.ModuleFault.TheVariants as faults
 use Rattle.alpha_link.specs.declared.header.Sizes.{Sizes}
 use Rattle.alpha_asm.specs.declared.patch.RelocationKind.{RelocationKind}
 use Rattle.alpha_asm.specs.declared.patch.RelocationKind.TheVariants as kinds
-use Rattle.alpha_asm.specs.declared.statement.Use.{Use}
-use Rattle.alpha_asm.specs.declared.statement.Use.TheVariants as uses
+use Rattle.alpha_asm.specs.declared.statement.RelocField.{RelocField}
+use Rattle.alpha_asm.specs.declared.statement.RelocField.TheVariants as uses
 use Rattle.alpha_asm.specs.Unlinked.{takes}
 use Rattle.alpha_link.specs.declared.relocation.Relocation.{Relocation}
 use Rattle.alpha_link.specs.Reading.{Read}
@@ -38,9 +40,9 @@ abbrev pub body : List ℕ → List ℕ → Body
 body words bytes = record { words = words; bytes = bytes }
 
 -- the code has an instruction at an offset that an address is put into
-abbrev pub is_taken_at : List ℕ → Use → ℕ → Bool
-is_taken_at words by offset =
-    offset % 4 == 0 && option_map_or (takes by) (option_and_then decoded (slice_get words (offset / 4))) false
+abbrev pub is_taken_at : List ℕ → RelocField → ℕ → Bool
+is_taken_at words field offset =
+    offset % 4 == 0 && option_map_or (takes field) (option_and_then decoded (slice_get words (offset / 4))) false
 
 -- eight zero bytes stand at an offset
 abbrev pub is_quad_at : List ℕ → ℕ → Bool
@@ -91,7 +93,8 @@ good_relocation z b before (Some r) rest =
 
 unfoldable pub relocation_at : ℕ → Sizes → Body → List Relocation → List ℕ → Read Relocation
 relocation_at total z b before bytes =
-    if nat_lt (length bytes) 13 then Err (faults.Cut total) else good_relocation z b before (relocation_in bytes) (drop 13 bytes)
+    if nat_lt (length bytes) 13 then Err (faults.Cut total)
+    else good_relocation z b before (relocation_in bytes) (drop 13 bytes)
 
 unfoldable pub relocation_bytes : Relocation → List ℕ
 relocation_bytes r =

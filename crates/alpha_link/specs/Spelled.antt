@@ -55,7 +55,8 @@ relocated_at total z words bytes symbols rest =
 
 abbrev pub named_at : ℕ → Sizes → List ℕ → List ℕ → List ℕ → Result ModuleParts ModuleFault
 named_at total z words bytes rest =
-    and_then (items_at (symbol_at total z) z.symbols [] rest) (λ symbols. relocated_at total z words bytes symbols.0 symbols.1)
+    and_then (items_at (symbol_at total z) z.symbols [] rest)
+    (λ symbols. relocated_at total z words bytes symbols.0 symbols.1)
 
 abbrev pub filled_at : ℕ → Sizes → List ℕ → List ℕ → Result ModuleParts ModuleFault
 filled_at total z words rest =
@@ -72,4 +73,5 @@ module_at bytes = and_then (header_at bytes) (λ z. coded_at (length bytes) z.0 
 unfoldable pub spelling : ModuleParts → List ℕ
 spelling m =
     header_bytes (sizes_of m)
-    ++ (flat_map longword m.words ++ (m.bytes ++ (flat_map symbol_bytes m.symbols ++ flat_map relocation_bytes m.relocations)))
+    ++ (flat_map longword m.words
+    ++ (m.bytes ++ (flat_map symbol_bytes m.symbols ++ flat_map relocation_bytes m.relocations)))

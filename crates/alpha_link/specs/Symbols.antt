@@ -1,5 +1,7 @@
 -- Symbols: how they are read and spelled, and which are good.
-use Rattle.std.specs.Prelude.{◌<◌, ◌^◌, ◌+◌, ◌*◌, ◌-◌, ◌%◌, ℕ, zero, suc, Bool, true, IsTrue, ◌&&◌, ◌==◌, nat_lt, nat_le, List, ◌∷◌, ◌++◌, length, drop, slice_get, slice_index, Option, None, Some, Ok, Err, if◌then◌else◌}
+use Rattle.std.specs.Prelude.{◌<◌, ◌^◌, ◌+◌, ◌*◌, ◌-◌, ◌%◌, ℕ, zero, suc, Bool, true, IsTrue, ◌&&◌, ◌==◌, nat_lt}
+use Rattle.std.specs.Prelude.{nat_le, List, ◌∷◌, ◌++◌, length, drop, slice_get, slice_index, Option, None, Some, Ok}
+use Rattle.std.specs.Prelude.{Err, if◌then◌else◌}
 use Rattle.std.specs.Option.{option_map, option_map_or}
 use Rattle.std.specs.Ordering.{nat_cmp}
 use Rattle.std.specs.Cmp.Lexicographic.{slice_cmp}
@@ -12,7 +14,7 @@ use Rattle.alpha_link.specs.declared.header.Sizes.{Sizes}
 use Rattle.alpha_link.specs.declared.symbol.SymbolSection.{SymbolSection}
 use Rattle.alpha_link.specs.declared.symbol.SymbolSection.TheVariants.{Code, Data, Undefined}
 use Rattle.alpha_link.specs.declared.symbol.Symbol as own
-use Rattle.alpha_link.specs.declared.symbol.Front.{Front}
+use Rattle.alpha_link.specs.declared.symbol.SymbolHeader.{SymbolHeader}
 use Rattle.alpha_link.specs.Bytes.{halfword, halfword_at}
 use Rattle.alpha_link.specs.Reading.{Read, and_then, taken}
 
@@ -53,12 +55,13 @@ symbol_fits z before s =
     nat_le (length s.name) 1024 && (is_label s.name && (offset_fits z s.section s.offset && comes_behind before s.name))
 
 -- what stands before a name
-abbrev pub front_at : ℕ → List ℕ → Read Front
-front_at total bytes =
+abbrev pub symbol_header_at : ℕ → List ℕ → Read SymbolHeader
+symbol_header_at total bytes =
     if nat_lt (length bytes) 7 then Err (Cut total)
-    else Ok (record { section = slice_index bytes 0; size = halfword_at 1 bytes; offset = longword_at 3 bytes }, drop 7 bytes)
+    else Ok
+    (record { section = slice_index bytes 0; size = halfword_at 1 bytes; offset = longword_at 3 bytes }, drop 7 bytes)
 
-abbrev pub made_symbol : Front → List ℕ → SymbolSection → Named
+abbrev pub made_symbol : SymbolHeader → List ℕ → SymbolSection → Named
 made_symbol front name section = record { section = section; offset = front.offset; name = name }
 
 -- the symbol, if there is one and it is good behind those before it
@@ -68,7 +71,7 @@ good_symbol z before (Some s) rest = if symbol_fits z before s then Ok (s, rest)
 
 unfoldable pub symbol_at : ℕ → Sizes → List Named → List ℕ → Read Named
 symbol_at total z before bytes =
-    and_then (front_at total bytes)
+    and_then (symbol_header_at total bytes)
     (λ front. and_then (taken total front.0.size front.1)
     (λ name. good_symbol z before (option_map (made_symbol front.0 name.0) (section_of front.0.section)) name.1))
 

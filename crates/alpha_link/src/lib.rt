@@ -48,13 +48,13 @@
 //! relocations are, `symbol_list.rt` has the symbols of a module, `symbols.rt` and `relocations.rt` read and write
 //! them, `number.rt` has numbers of two bytes; `read.rt` and `write.rt` are the ways in and out, and `judged.rt`
 //! has the verdict.
-//! A module of a source is `made.rt`. `labels.rt` numbers the labels that the source defines or names, and
+//! A module of a source is `source_module.rt`. `labels.rt` numbers the labels that the source defines or names, and
 //! `made_relocations.rt` makes relocations by these numbers; `keyed.rt` sorts the labels, which `radix.rt`
 //! puts in the order of their keys first where they stand in many runs; and `made_symbols.rt` makes their
 //! symbols, and the ranks that go into the relocations.
 //!
 //! `located.rt` says where each module stands among those that are linked. The symbols of all of them stand
-//! in one row, `row.rt`, which `standings.rt` reads; `table.rt` has the table of the numbers by which the names
+//! in one row, `row.rt`, which `global_symbols.rt` reads; `table.rt` has the table of the numbers by which the names
 //! that they define are found, and `names.rt` enters these there, in which the names of undefined symbols are
 //! then looked up. `addresses.rt` has the addresses of a module's symbols. `linker.rt` has the refusals in
 //! their order, and `output.rt` copies the modules into one buffer of instructions and one of data bytes, and
@@ -66,15 +66,16 @@
 //! is, `specs/Spelled.antt` its bytes both ways, `specs/Module.antt` what a [`Module`] holds, and `specs/Listed.antt`
 //! what a [`SymbolList`] does;
 //! `specs/Made.antt` has the module that a source makes, `specs/Numbered.antt` what is made by the numbers
-//! of labels on the way, `specs/Rising.antt` names in order, `specs/NameKeys.antt` the keys that they are
+//! of labels on the way, `specs/SortedNames.antt` names in order, `specs/NameKeys.antt` the keys that they are
 //! sorted by, and `specs/Digits.antt` the digits of these, counted;
 //! `specs/Bytes.antt` has numbers of two bytes, `specs/Unlinked.antt` what is known of a source that was
-//! read, and `specs/Alike.antt` says which words no condition of a trap shadow tells apart. `specs/Standings.antt`,
+//! read, and `specs/Alike.antt` says which words no condition of a trap shadow tells apart. `specs/GlobalSymbols.antt`,
 //! `specs/Names.antt`, `specs/Addresses.antt` and `specs/Output.antt` say what the linker holds on its way.
 #![tactic(auto)]
 
 mod addresses;
 mod fault;
+mod global_symbols;
 mod header;
 mod judged;
 mod keyed;
@@ -82,7 +83,6 @@ mod labels;
 mod laws;
 mod linker;
 mod located;
-mod made;
 mod made_relocations;
 mod made_symbols;
 mod module;
@@ -94,22 +94,22 @@ mod read;
 mod relocation;
 mod relocations;
 mod row;
-mod standings;
+mod source_module;
 mod symbol;
 mod symbol_list;
 mod symbols;
 mod table;
 mod write;
 
-pub use alpha_asm::{RelocationKind, Use};
+pub use alpha_asm::{RelocField, RelocationKind};
 pub use fault::{LinkFault, ModuleFault};
 pub use judged::verdict;
 pub use laws::{laws_of_joined_code, laws_of_linked_code, laws_of_modules};
 pub use linker::link;
-pub use made::make_module;
 pub use module::Module;
 pub use read::read_module;
 pub use relocation::Relocation;
+pub use source_module::make_module;
 pub use symbol::{Symbol, SymbolSection};
 pub use symbol_list::SymbolList;
 pub use write::module_bytes;

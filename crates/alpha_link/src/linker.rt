@@ -5,20 +5,21 @@ ghost use Rattle.std.specs.Option.{option_map};
 ghost use Rattle.alpha_image.specs.Fields.{level_numbers};
 ghost use Rattle.alpha_asm.specs.Program.{program_of, program_with};
 ghost use Rattle.alpha_link.specs.declared.fault.LinkFault.TheVariants as faults;
-ghost use Rattle.alpha_link.specs.Linked.{places, address_of, missing, unmet, entry_of, words_in, filled_in, zeroed_in, linked_at, linked};
+ghost use Rattle.alpha_link.specs.Linked.{places, address_of, missing, out_of_range, entry_of, words_in, filled_in};
+ghost use Rattle.alpha_link.specs.Linked.{zeroed_in, linked_at, linked};
 ghost use Rattle.alpha_link.specs.Addresses.{AllKnow};
 ghost use Rattle.alpha_link.specs.Names.{found_in};
-ghost use Rattle.alpha_link.specs.Output.{StandBehind, JoinsAll};
+ghost use Rattle.alpha_link.specs.Output.{AreAfterCode, JoinsAll};
 ghost use Rattle.alpha_image.specs.Rules.{FieldsFit};
 ghost use Rattle.alpha_image.specs.Insns.{IsCodeInsn};
 ghost use Rattle.alpha_words.specs.declared.Level.TheVariants as levels;
 ghost use Rattle.alpha_image.specs.declared.version.Version.TheVariants.{One};
 
 use crate::LinkFault;
+use crate::global_symbols::starts_of;
 use crate::located::{Located, places};
 use crate::module::Module;
 use crate::output::Output;
-use crate::standings::starts_of;
 use crate::table::Names;
 use alpha_asm::{CODE_BASE, DATA_BASE, STACK_BYTES};
 use alpha_image::{Image, LevelFields, Segment, Version};
@@ -58,7 +59,7 @@ impl Totals {
 }
 
 // The refusal of the least symbol whose name has no address.
-fn undefined<'m>(names: &Names<'_, 'm>, places: &[Located<'m>]) -> Option<LinkFault>
+fn first_undefined<'m>(names: &Names<'_, 'm>, places: &[Located<'m>]) -> Option<LinkFault>
     requires names { (name : List ℕ) → found_in names.now name ≡ address_of places.now name }
     requires own { AllKnow (found_in names.now) places.now }
     ensures { result ≡ option_map (λ p. faults.Undefined p.0 p.1) (missing places.now) }
@@ -91,7 +92,7 @@ fn entry_of<'m>(
 }
 
 // The code and the data bytes of the image, with all addresses put in.
-fn joined<'m>(
+fn join_modules<'m>(
     alloc: Global,
     names: &Names<'_, 'm>,
     places: &[Located<'m>],
@@ -99,11 +100,11 @@ fn joined<'m>(
 ) -> Result<Output, LinkFault>
     requires names { (name : List ℕ) → found_in names.now name ≡ address_of places.now name }
     requires own { AllKnow (found_in names.now) places.now }
-    requires stand { StandBehind 0 0 places.now }
+    requires stand { AreAfterCode 0 0 places.now }
     ensures ok { IfOk result (JoinsAll places.now) }
     ensures insns { IfOk result (λ output. All (IsCodeInsn levels.One) output.code.items) }
     ensures refused { IfErr result (λ fault. fault ≢ faults.NoMemory →
-        option_map (λ p. faults.Reach p.0 p.1) (unmet places.now) ≡ Some fault) }
+        option_map (λ p. faults.Reach p.0 p.1) (out_of_range places.now) ≡ Some fault) }
 {
     let mut output = Output::empty(alloc, totals.words, totals.filled)?;
     for located in places {
@@ -129,7 +130,7 @@ fn image_with(fields: &LevelFields, segment: Segment, output: Output) -> Image
 }
 
 // The image with an entry.
-fn linked_at<'m>(
+fn link_with_entry<'m>(
     alloc: Global,
     names: &Names<'_, 'm>,
     places: &[Located<'m>],
@@ -138,7 +139,7 @@ fn linked_at<'m>(
 ) -> Result<Image, LinkFault>
     requires names { (name : List ℕ) → found_in names.now name ≡ address_of places.now name }
     requires own { AllKnow (found_in names.now) places.now }
-    requires stand { StandBehind 0 0 places.now }
+    requires stand { AreAfterCode 0 0 places.now }
     requires words { totals.words ≡ words_in places.now }
     requires filled { totals.filled ≡ filled_in places.now }
     requires zeroed { totals.zeroed ≡ zeroed_in places.now }
@@ -160,7 +161,7 @@ fn linked_at<'m>(
     if let Some(field) = fields.bad_field(u64::from(totals.words), &[segment]) {
         return Err(LinkFault::ImageField(field));
     }
-    let output = joined(alloc, names, places, totals)?;
+    let output = join_modules(alloc, names, places, totals)?;
     Ok(image_with(&fields, segment, output))
 }
 
@@ -186,12 +187,12 @@ pub fn link<'m>(
     let places = places(alloc, modules)?;
     let starts = starts_of(alloc, &places)?;
     let names = Names::of(alloc, &places, &starts)?;
-    if let Some(fault) = undefined(&names, &places) {
+    if let Some(fault) = first_undefined(&names, &places) {
         return Err(fault);
     }
     let totals = Totals::of(&places);
     match entry_of(&names, &places, totals.words, entry) {
-        Some(entry) => linked_at(alloc, &names, &places, totals, entry),
+        Some(entry) => link_with_entry(alloc, &names, &places, totals, entry),
         None => Err(LinkFault::Entry),
     }
 }

@@ -1,28 +1,30 @@
 //! The relocations of a module that is made of a source.
 
-ghost use Rattle.std.specs.Prelude.{◌≡◌, ◌<◌, ◌≤◌, ◌^◌, ◌||◌, ◌&&◌, ◌++◌, ℕ, List, [], All, map, length, is_some, is_none, IfOk, OnOk, OnErr, IfSome, IfNone};
+ghost use Rattle.std.specs.Prelude.{◌≡◌, ◌<◌, ◌≤◌, ◌^◌, ◌||◌, ◌&&◌, ◌++◌, ℕ, List, [], All, map, length, is_some};
+ghost use Rattle.std.specs.Prelude.{is_none, IfOk, OnOk, OnErr, IfSome, IfNone};
 ghost use Rattle.std.specs.List.{cons_option, list_any};
 ghost use Rattle.std.specs.Str.{bytes_eq};
-ghost use Rattle.alpha_asm.specs.Labels.{spot_named, are_among};
-ghost use Rattle.alpha_asm.specs.Patches.{fix_of, need_of};
+ghost use Rattle.alpha_asm.specs.Labels.{location_named, are_among};
+ghost use Rattle.alpha_asm.specs.Patches.{fix_of, target_of};
 ghost use Rattle.alpha_asm.specs.declared.place.Section.TheVariants as sides;
 ghost use Rattle.alpha_link.specs.Made.{kind_in, offset_in, relocation_with};
-ghost use Rattle.alpha_link.specs.Numbered.{texts, IsNumbered, ByNumbers, IsTooGreat, relocation_at, relocations_at, ranked};
+ghost use Rattle.alpha_link.specs.Numbered.{texts, IsNumbered, ByNumbers, IsTooGreat, relocation_at, relocations_at};
+ghost use Rattle.alpha_link.specs.Numbered.{ranked};
 
 use crate::keyed::KeyedName;
 use crate::labels::numbers_of;
 use crate::relocation::Relocation;
-use alpha_asm::{Labels, Need, Patch, RelocationKind, Section};
+use alpha_asm::{Labels, Patch, RelocationKind, Section, Target};
 use alpha_words::NoMemory;
 use std::alloc::Global;
 
 // What a link puts in for an address that is needed in the code, or in the data.
-fn kind_in(side: Section, need: Need) -> Option<RelocationKind>
-    ensures { (at : ℕ) → result ≡ kind_in side (need_of at need) }
+fn kind_in(side: Section, target: Target) -> Option<RelocationKind>
+    ensures { (at : ℕ) → result ≡ kind_in side (target_of at target) }
 {
-    match (side, need) {
-        (Section::Code, Need::Put(RelocationKind::Insn(by))) => Some(RelocationKind::Insn(by)),
-        (Section::Data, Need::Put(RelocationKind::Quad)) => Some(RelocationKind::Quad),
+    match (side, target) {
+        (Section::Code, Target::Put(RelocationKind::Insn(by))) => Some(RelocationKind::Insn(by)),
+        (Section::Data, Target::Put(RelocationKind::Quad)) => Some(RelocationKind::Quad),
         _ => None,
     }
 }
@@ -30,14 +32,14 @@ fn kind_in(side: Section, need: Need) -> Option<RelocationKind>
 // How many bytes of its section stand before what needs an address, `None` from 2^32 on.
 fn offset_of(patch: &Patch<'_>) -> Option<u32>
     ensures value { IfSome result (λ n. n
-        ≡ offset_in (fix_of patch.now).at (fix_of patch.now).name.need) }
+        ≡ offset_in (fix_of patch.now).at (fix_of patch.now).name.target) }
     ensures none { IfNone result
-        (2 ^ 32 ≤ offset_in (fix_of patch.now).at (fix_of patch.now).name.need) }
+        (2 ^ 32 ≤ offset_in (fix_of patch.now).at (fix_of patch.now).name.target) }
 {
-    match patch.need {
-        Need::Put(RelocationKind::Insn(_)) => u32::try_from(patch.at).ok()?.checked_mul(4),
-        Need::Put(RelocationKind::Quad) => u32::try_from(patch.at).ok(),
-        Need::Entry => Some(0),
+    match patch.target {
+        Target::Put(RelocationKind::Insn(_)) => u32::try_from(patch.at).ok()?.checked_mul(4),
+        Target::Put(RelocationKind::Quad) => u32::try_from(patch.at).ok(),
+        Target::Entry => Some(0),
     }
 }
 
@@ -45,7 +47,7 @@ fn offset_of(patch: &Patch<'_>) -> Option<u32>
 // so there is one.
 fn relocation_with(kind: RelocationKind, number: u32, patch: &Patch<'_>) -> Option<Relocation>
     ensures value { let fix = fix_of patch.now in
-        IfSome result (λ r. relocation_with kind (offset_in fix.at fix.name.need)
+        IfSome result (λ r. relocation_with kind (offset_in fix.at fix.name.target)
         patch.now.to.offset number ≡ r) }
     ensures none { IfNone result (IsTooGreat (fix_of patch.now)) }
 {
@@ -69,7 +71,7 @@ fn relocation_at(
     ensures value { IfOk result (λ r. relocation_at side (fix_of patch.now) number ≡ r) }
     ensures refused { OnErr result (IsTooGreat (fix_of patch.now)) }
 {
-    match kind_in(side, patch.need) {
+    match kind_in(side, patch.target) {
         Some(kind) => Ok(Some(relocation_with(kind, number, patch).ok_or(NoMemory)?)),
         None => Ok(None),
     }
@@ -145,8 +147,8 @@ impl<'a> Numbered<'a> {
     ) -> Result<Numbered<'a>, NoMemory>
         ensures names { IfOk result (λ made. IsNumbered labels.now (texts made.names.items)) }
         ensures among { IfOk result (λ made. (q : List ℕ) →
-            are_among made.names.items q ≡ (is_some (spot_named labels.now q)
-            || list_any (λ p. is_none (spot_named labels.now p.to.label.now)
+            are_among made.names.items q ≡ (is_some (location_named labels.now q)
+            || list_any (λ p. is_none (location_named labels.now p.to.label.now)
             && bytes_eq q p.to.label.now) patches.entry.items)) }
         ensures relocations { IfOk result (λ made.
             ByNumbers (texts made.names.items) patches.entry.items made.relocations.items) }

@@ -3,40 +3,40 @@
 ghost use Rattle.std.specs.Prelude.{◌≡◌, ℕ, List, All, map, length, slice_get, Some, not, true, IfOk, IfSome, IfNone};
 ghost use Rattle.std.specs.List.{dedup};
 ghost use Rattle.std.specs.Str.{bytes_eq};
-ghost use Rattle.alpha_asm.specs.Labels.{spot_named};
+ghost use Rattle.alpha_asm.specs.Labels.{location_named};
 ghost use Rattle.alpha_link.specs.Symbols.{named};
-ghost use Rattle.alpha_link.specs.Made.{symbol_at_spot};
+ghost use Rattle.alpha_link.specs.Made.{symbol_at_location};
 ghost use Rattle.alpha_link.specs.NameKeys.{IsKeyed};
 ghost use Rattle.alpha_link.specs.Numbered.{texts, IsNumbered, HasRank};
 ghost use Rattle.alpha_link.specs.Unlinked.{IsNear};
 
 use crate::keyed::KeyedName;
-use crate::labels::narrow;
+use crate::labels::to_u32;
 use crate::symbol::{Symbol, SymbolSection};
-use alpha_asm::{Labels, Spot};
+use alpha_asm::{LabelLocation, Labels};
 use alpha_words::NoMemory;
 use std::alloc::Global;
 
 // The section of a label that is defined there, or nowhere, and how many bytes of the section stand
 // before it.
-fn section_and_offset(spot: Option<Spot>) -> (SymbolSection, u32)
-    requires { IfSome spot IsNear }
+fn section_and_offset(location: Option<LabelLocation>) -> (SymbolSection, u32)
+    requires { IfSome location IsNear }
     ensures { (name : List ℕ) →
-        symbol_at_spot name spot ≡ record { section = result.0; offset = result.1; name = name } }
+        symbol_at_location name location ≡ record { section = result.0; offset = result.1; name = name } }
 {
-    match spot {
+    match location {
         None => (SymbolSection::Undefined, 0),
-        Some(Spot::Code(words)) => (SymbolSection::Code, 4 * words),
-        Some(Spot::Data(_, offset)) => (SymbolSection::Data, offset as u32),
+        Some(LabelLocation::Code(words)) => (SymbolSection::Code, 4 * words),
+        Some(LabelLocation::Data(_, offset)) => (SymbolSection::Data, offset as u32),
     }
 }
 
 // The symbol of a label that is defined there, or nowhere.
-fn symbol_at_spot<'a>(name: &'a [u8], spot: Option<Spot>) -> Symbol<'a>
-    requires { IfSome spot IsNear }
-    ensures { named result ≡ symbol_at_spot name.entry.now spot }
+fn symbol_at_location<'a>(name: &'a [u8], location: Option<LabelLocation>) -> Symbol<'a>
+    requires { IfSome location IsNear }
+    ensures { named result ≡ symbol_at_location name.entry.now location }
 {
-    let (section, offset) = section_and_offset(spot);
+    let (section, offset) = section_and_offset(location);
     Symbol {
         section,
         offset,
@@ -46,13 +46,13 @@ fn symbol_at_spot<'a>(name: &'a [u8], spot: Option<Spot>) -> Symbol<'a>
 
 // The symbol of a label, whose definition is found by its number.
 fn symbol_of<'a>(labels: &Labels<'a>, keyed: &KeyedName<'a>) -> Symbol<'a>
-    requires near { (name : List ℕ) → IfSome (spot_named labels.now name) IsNear }
+    requires in_range { (name : List ℕ) → IfSome (location_named labels.now name) IsNear }
     requires number { (names : List (List ℕ)) × IsNumbered labels.now names
         × (slice_get names keyed.now.number ≡ Some keyed.now.name.now) }
     ensures { named result
-        ≡ symbol_at_spot keyed.now.name.now (spot_named labels.now keyed.now.name.now) }
+        ≡ symbol_at_location keyed.now.name.now (location_named labels.now keyed.now.name.now) }
 {
-    symbol_at_spot(keyed.name, labels.numbered(keyed.number as usize))
+    symbol_at_location(keyed.name, labels.numbered(keyed.number as usize))
 }
 
 // Whether a name is the one before it. Names with different keys are told apart by these.
@@ -94,7 +94,7 @@ impl<'a> Ranked<'a> {
         labels: &Labels<'a>,
         keyed: &[KeyedName<'a>],
     ) -> Result<Ranked<'a>, NoMemory>
-        requires near { (name : List ℕ) → IfSome (spot_named labels.now name) IsNear }
+        requires in_range { (name : List ℕ) → IfSome (location_named labels.now name) IsNear }
         requires keys { (front : List ℕ) × All (λ k. IsKeyed front k.key k.name.now) keyed.now }
         requires numbers { (names : List (List ℕ)) × IsNumbered labels.now names
             × (length names ≡ length keyed.now)
@@ -102,7 +102,7 @@ impl<'a> Ranked<'a> {
         ensures symbols { let names = dedup (λ a b. bytes_eq a.now b.now)
             (map (λ k. k.name) keyed.now) in
             IfOk result (λ ranked. map named ranked.symbols.items
-            ≡ map (λ n. symbol_at_spot n.now (spot_named labels.now n.now)) names) }
+            ≡ map (λ n. symbol_at_location n.now (location_named labels.now n.now)) names) }
         ensures ranks { let names = dedup (λ a b. bytes_eq a.now b.now)
             (map (λ k. k.name) keyed.now) in
             IfOk result (λ ranked. All (HasRank ranked.ranks.items (texts names)) keyed.now) }
@@ -113,7 +113,7 @@ impl<'a> Ranked<'a> {
         let mut rank = 0;
         for keyed_name in keyed {
             if is_new(last, keyed_name) {
-                rank = narrow(symbols.len())?;
+                rank = to_u32(symbols.len())?;
                 symbols.push(symbol_of(labels, keyed_name))?;
                 last = Some(keyed_name);
             }

@@ -1,6 +1,8 @@
 //! The names that modules define, with their addresses.
 
-ghost use Rattle.std.specs.Prelude.{◌≡◌, ◌≢◌, ◌&&◌, ◌+◌, take, drop, slice_get, length, ℕ, List, [], None, Some, OnOk, OnErr, IfOk, IfErr, is_some, is_none, not, true, false, map, position, if◌then◌else◌};
+ghost use Rattle.std.specs.Prelude.{◌≡◌, ◌≢◌, ◌&&◌, ◌+◌, take, drop, slice_get, length, ℕ, List, [], None, Some, OnOk};
+ghost use Rattle.std.specs.Prelude.{OnErr, IfOk, IfErr, is_some, is_none, not, true, false, map, position};
+ghost use Rattle.std.specs.Prelude.{if◌then◌else◌};
 ghost use Rattle.std.specs.Option.{option_map, option_or};
 ghost use Rattle.std.specs.List.{list_all};
 ghost use Rattle.std.specs.Str.{bytes_eq};
@@ -9,7 +11,7 @@ ghost use Rattle.alpha_link.specs.Linked.{address_in, address_of, is_defined, re
 ghost use Rattle.alpha_link.specs.Names.{found_in, again_in};
 ghost use Rattle.alpha_link.specs.Addresses.{address_by_own, Knows, AllKnow};
 ghost use Rattle.alpha_link.specs.Symbols.{named};
-ghost use Rattle.alpha_link.specs.Standings.{standings, standings_in};
+ghost use Rattle.alpha_link.specs.GlobalSymbols.{global_symbols, global_symbols_in};
 ghost use Rattle.alpha_link.specs.Starts.{AreStarts};
 
 use crate::LinkFault;
@@ -86,7 +88,7 @@ impl<'p, 'm> Names<'p, 'm> {
     // Adds the next symbol of the row, which has this name and address, unless it defines a name
     // that has an address. Answers whether it did.
     fn enter(&mut self, name: &'m [u8], address: Option<u64>) -> Result<bool, AllocError>
-        requires { slice_get (standings self.old.row.places.now) self.old.row.count
+        requires { slice_get (global_symbols self.old.row.places.now) self.old.row.count
             ≡ Some (record { name = name.now; address = address }) }
         ensures value { IfOk result (λ added. added
             ≡ not (is_some address && is_some (found_in self.old name.entry.now))) }
@@ -120,8 +122,8 @@ impl<'p, 'm> Names<'p, 'm> {
     // so what is defined before is so by another module.
     fn define_all(&mut self, located: &Located<'m>) -> Result<(), LinkFault>
         requires { take (length located.now.parts.symbols)
-            (drop self.old.row.count (standings self.old.row.places.now))
-            ≡ standings_in located.now }
+            (drop self.old.row.count (global_symbols self.old.row.places.now))
+            ≡ global_symbols_in located.now }
         ensures found { OnOk result ((name : List ℕ) →
             found_in self.new name
             ≡ option_or (found_in self.old name) (address_in name located.now)) }

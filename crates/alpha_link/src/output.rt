@@ -1,13 +1,14 @@
 //! The code and the data bytes of an image that modules link to, one behind the other.
 
-ghost use Rattle.std.specs.Prelude.{◌≡◌, ◌+◌, ◌-◌, ◌++◌, ◌≤◌, [], length, All, replicate, None, Ok, OnOk, IfOk, IfSome, not, position};
+ghost use Rattle.std.specs.Prelude.{◌≡◌, ◌+◌, ◌-◌, ◌++◌, ◌≤◌, [], length, All, replicate, None, Ok, OnOk, IfOk, IfSome};
+ghost use Rattle.std.specs.Prelude.{not, position};
 ghost use Rattle.std.specs.List.{filter_map};
 ghost use Rattle.alpha_words.specs.declared.Level.TheVariants.{One};
 ghost use Rattle.alpha_table.specs.Decoded.{decoded};
 ghost use Rattle.alpha_image.specs.Insns.{IsCodeInsn};
 ghost use Rattle.alpha_asm.specs.Patches.{IsNear};
 ghost use Rattle.alpha_link.specs.Parts.{IsModule};
-ghost use Rattle.alpha_link.specs.Linked.{target, is_met, addresses_by};
+ghost use Rattle.alpha_link.specs.Linked.{target, is_in_range, addresses_by};
 ghost use Rattle.alpha_link.specs.Addresses.{Knows};
 ghost use Rattle.alpha_link.specs.Names.{found_in};
 ghost use Rattle.alpha_link.specs.Output.{code_with, bytes_with, code_with_all, bytes_with_all, JoinsOne};
@@ -23,7 +24,7 @@ use std::alloc::{AllocError, Global};
 // The address that a relocation puts in: its symbol's, and its addend.
 fn target(addresses: &Addresses<'_, '_>, relocation: &Relocation) -> Option<i128>
     ensures value { result ≡ target addresses.now relocation.now }
-    ensures near { IfSome result IsNear }
+    ensures in_range { IfSome result IsNear }
 {
     let address = addresses.get(relocation.symbol as usize)?;
     Some(i128::from(address) + i128::from(relocation.addend))
@@ -55,7 +56,7 @@ impl Output {
         located: &Located<'_>,
         relocation: &Relocation,
     ) -> bool
-        ensures fits { result ≡ is_met addresses.now located.now relocation.now }
+        ensures fits { result ≡ is_in_range addresses.now located.now relocation.now }
         ensures code { self.new.code.items
             ≡ code_with addresses.now located.now relocation.now self.old.code.items }
         ensures bytes { self.new.bytes.items
@@ -81,7 +82,7 @@ impl Output {
 
     // Puts in all that the last module asks for. The least relocation that doesn't fit.
     fn put_all(&mut self, addresses: &Addresses<'_, '_>, located: &Located<'_>) -> Option<u32>
-        ensures unmet { result ≡ position (λ r. not (is_met addresses.now located.now r))
+        ensures out_of_range { result ≡ position (λ r. not (is_in_range addresses.now located.now r))
             located.now.parts.relocations }
         ensures code { result ≡ None → self.new.code.items
             ≡ code_with_all addresses.now located.now located.now.parts.relocations
@@ -128,9 +129,9 @@ impl Output {
         requires words { located.now.words ≡ length self.old.code.items }
         requires filled { length self.old.bytes.items ≤ located.now.filled }
         requires own { Knows (found_in names.now) located.now }
-        ensures unmet { let addresses = addresses_by (found_in names.now) located.now in
+        ensures out_of_range { let addresses = addresses_by (found_in names.now) located.now in
             IfOk result (λ unmet. unmet
-            ≡ position (λ r. not (is_met addresses located.now r)) located.now.parts.relocations) }
+            ≡ position (λ r. not (is_in_range addresses located.now r)) located.now.parts.relocations) }
         ensures joined { result ≡ Ok None →
             JoinsOne (addresses_by (found_in names.now) located.now) located.now self.old self.new }
         ensures insns { result ≡ Ok None → All (IsCodeInsn One) self.old.code.items

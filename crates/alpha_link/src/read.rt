@@ -19,7 +19,11 @@ use alpha_words::Level;
 use std::alloc::Global;
 
 /// So many bytes, of `total` ones in all, and those behind them.
-pub(crate) fn taken(total: u64, count: usize, bytes: &[u8]) -> Result<(&[u8], &[u8]), ModuleFault>
+pub(crate) fn take_bytes(
+    total: u64,
+    count: usize,
+    bytes: &[u8],
+) -> Result<(&[u8], &[u8]), ModuleFault>
     ensures value { Gives (λ x. (x.0.now, x.1.now)) result (taken total count bytes.now) }
     ensures memory { IfErr result (λ fault. fault ≢ faults.NoMemory) }
 {
@@ -78,7 +82,7 @@ pub fn read_module<'a>(alloc: Global, bytes: &'a [u8]) -> Result<Module<'a>, Mod
     let total = bytes.len() as u64;
     let (sizes, behind) = read_header(bytes)?;
     let (insns, behind) = read_code(alloc, total, sizes.words, behind)?;
-    let (data, behind) = taken(total, sizes.filled as usize, behind)?;
+    let (data, behind) = take_bytes(total, sizes.filled as usize, behind)?;
     let (symbols, behind) = read_symbols(alloc, total, &sizes, behind)?;
     let (relocations, behind) = read_relocations(alloc, total, &sizes, &insns, data, behind)?;
     if !behind.is_empty() {

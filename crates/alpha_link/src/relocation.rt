@@ -3,16 +3,16 @@
 ghost use Rattle.std.specs.Prelude.{◌≡◌};
 ghost use Rattle.alpha_link.specs.Relocations.{kind_of, kind_number};
 
-use alpha_asm::{RelocationKind, Use};
+use alpha_asm::{RelocField, RelocationKind};
 
 /// The kind of a number, `None` exactly above 3.
 pub(crate) fn kind_of(number: u8) -> Option<RelocationKind>
     ensures { result ≡ kind_of number }
 {
     match number {
-        0 => Some(RelocationKind::Insn(Use::Branch)),
-        1 => Some(RelocationKind::Insn(Use::High)),
-        2 => Some(RelocationKind::Insn(Use::Low)),
+        0 => Some(RelocationKind::Insn(RelocField::Branch)),
+        1 => Some(RelocationKind::Insn(RelocField::High)),
+        2 => Some(RelocationKind::Insn(RelocField::Low)),
         3 => Some(RelocationKind::Quad),
         _ => None,
     }
@@ -23,9 +23,9 @@ pub(crate) fn kind_number(kind: RelocationKind) -> u8
     ensures { result ≡ kind_number kind }
 {
     match kind {
-        RelocationKind::Insn(Use::Branch) => 0,
-        RelocationKind::Insn(Use::High) => 1,
-        RelocationKind::Insn(Use::Low) => 2,
+        RelocationKind::Insn(RelocField::Branch) => 0,
+        RelocationKind::Insn(RelocField::High) => 1,
+        RelocationKind::Insn(RelocField::Low) => 2,
         RelocationKind::Quad => 3,
     }
 }

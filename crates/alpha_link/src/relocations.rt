@@ -8,12 +8,13 @@ ghost use Rattle.alpha_table.specs.Encoded.{encoded};
 ghost use Rattle.alpha_asm.specs.Unlinked.{is_undisplaced};
 ghost use Rattle.alpha_link.specs.declared.fault.ModuleFault.TheVariants as faults;
 ghost use Rattle.alpha_link.specs.Reading.{Gives, items_at};
-ghost use Rattle.alpha_link.specs.Relocations.{is_taken_at, is_quad_at, stands_at, follows, follows_all, relocation_fits, relocation_in, relocation_at, relocation_bytes, body};
+ghost use Rattle.alpha_link.specs.Relocations.{is_taken_at, is_quad_at, stands_at, follows, follows_all};
+ghost use Rattle.alpha_link.specs.Relocations.{relocation_fits, relocation_in, relocation_at, relocation_bytes, body};
 
 use crate::ModuleFault;
 use crate::header::Sizes;
 use crate::relocation::{Relocation, kind_number, kind_of};
-use alpha_asm::{RelocationKind, Use};
+use alpha_asm::{RelocField, RelocationKind};
 use alpha_image::{longword_at, push_longword};
 use alpha_table::{Form, Insn};
 use std::alloc::{AllocError, Global};
@@ -43,15 +44,15 @@ fn insn_at(insns: &[Insn], place: usize) -> Option<Insn>
 }
 
 // Whether the code has an instruction at an offset that an address is put into.
-fn is_taken_at(insns: &[Insn], by: Use, offset: u32) -> bool
+fn is_taken_at(insns: &[Insn], field: RelocField, offset: u32) -> bool
     requires { map decoded (map encoded insns.now) ≡ map Some insns.now }
-    ensures { result ≡ is_taken_at (map encoded insns.now) by offset }
+    ensures { result ≡ is_taken_at (map encoded insns.now) field offset }
 {
     if offset % 4 != 0 {
         return false;
     }
     match insn_at(insns, (offset / 4) as usize) {
-        Some(insn) => by.suits(&insn) && is_undisplaced(&insn),
+        Some(insn) => field.applies_to(&insn) && is_undisplaced(&insn),
         None => false,
     }
 }

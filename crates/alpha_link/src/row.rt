@@ -18,7 +18,7 @@ pub(crate) struct Row<'p, 'm> {
 
 /// A symbol of a row.
 #[derive(Clone, Copy)]
-pub(crate) struct Standing<'m> {
+pub(crate) struct GlobalSymbol<'m> {
     /// Its name.
     pub name: &'m [u8],
     /// Its address, where it is defined.

@@ -52,7 +52,7 @@ pub struct Symbol<'a> {
 
 /// What stands before a symbol's name in a module's bytes.
 #[derive(Clone, Copy)]
-pub(crate) struct Front {
+pub(crate) struct SymbolHeader {
     /// The number of its section.
     pub section: u8,
     /// How many bytes the name has.

@@ -52,7 +52,7 @@ impl<'a> Model for SymbolList<'a> {
 
 // So many bytes at the front, or all where there are fewer.
 #[inline(always)]
-fn front(bytes: &[u8], count: usize) -> &[u8]
+fn bytes_up_to(bytes: &[u8], count: usize) -> &[u8]
     ensures { result.now ≡ take count bytes.now }
 {
     let (front, _) = bytes.split_at(count.min(bytes.len()));
@@ -61,7 +61,7 @@ fn front(bytes: &[u8], count: usize) -> &[u8]
 
 // The bytes behind so many.
 #[inline(always)]
-fn behind(bytes: &[u8], count: usize) -> &[u8]
+fn bytes_from(bytes: &[u8], count: usize) -> &[u8]
     ensures { result.now ≡ drop count bytes.now }
 {
     let (_, behind) = bytes.split_at(count.min(bytes.len()));
@@ -84,7 +84,7 @@ fn symbol_from(bytes: &[u8]) -> Symbol<'_>
     Symbol {
         section: SymbolSection::of(bytes[0]).unwrap_or(SymbolSection::Undefined),
         offset: longword_at(bytes, 3),
-        name: front(behind(bytes, FRONT_BYTES), usize::from(size)),
+        name: bytes_up_to(bytes_from(bytes, FRONT_BYTES), usize::from(size)),
     }
 }
 
@@ -124,7 +124,7 @@ impl<'a> ReadSymbols<'a> {
         requires { number < length (read_in self.now) }
         ensures { slice_get (read_in self.now) number ≡ Some (named result) }
     {
-        symbol_from(behind(self.bytes, self.begins[number] as usize))
+        symbol_from(bytes_from(self.bytes, self.begins[number] as usize))
     }
 
     /// The last one.
@@ -155,7 +155,7 @@ impl<'a> ReadSymbols<'a> {
 
 impl<'a> SymbolList<'a> {
     /// Symbols that were made of a source.
-    pub(crate) fn made(symbols: Vec<Symbol<'a>>) -> SymbolList<'a>
+    pub(crate) fn of_source(symbols: Vec<Symbol<'a>>) -> SymbolList<'a>
         ensures { result ≡ map named symbols.entry.items }
     {
         SymbolList {

@@ -5,13 +5,14 @@ ghost use Rattle.std.specs.List.{flat_map};
 ghost use Rattle.alpha_link.specs.declared.fault.ModuleFault.TheVariants as faults;
 ghost use Rattle.alpha_link.specs.Reading.{Gives, items_at};
 ghost use Rattle.alpha_link.specs.Listed.{read_in};
-ghost use Rattle.alpha_link.specs.Symbols.{named, offset_fits, comes_behind, symbol_fits, front_at, symbol_at, symbol_bytes};
+ghost use Rattle.alpha_link.specs.Symbols.{named, offset_fits, comes_behind, symbol_fits, symbol_header_at, symbol_at};
+ghost use Rattle.alpha_link.specs.Symbols.{symbol_bytes};
 
 use crate::ModuleFault;
 use crate::header::Sizes;
 use crate::number::{halfword_at, push_halfword};
-use crate::read::taken;
-use crate::symbol::{Front, Symbol, SymbolSection};
+use crate::read::take_bytes;
+use crate::symbol::{Symbol, SymbolHeader, SymbolSection};
 use crate::symbol_list::{FRONT_BYTES, ReadSymbols, SymbolList};
 use alpha_image::{longword_at, push_longword};
 use alpha_token::is_label;
@@ -21,14 +22,14 @@ use std::alloc::{AllocError, Global};
 const LONGEST_NAME: usize = 1024;
 
 // What stands before a name, and the bytes behind it.
-fn front_at(total: u64, bytes: &[u8]) -> Result<(Front, &[u8]), ModuleFault>
-    ensures value { Gives (λ x. (x.0, x.1.now)) result (front_at total bytes.now) }
+fn header_at(total: u64, bytes: &[u8]) -> Result<(SymbolHeader, &[u8]), ModuleFault>
+    ensures value { Gives (λ x. (x.0, x.1.now)) result (symbol_header_at total bytes.now) }
     ensures memory { IfErr result (λ fault. fault ≢ faults.NoMemory) }
 {
     if bytes.len() < FRONT_BYTES {
         return Err(ModuleFault::Cut(total));
     }
-    let front = Front {
+    let front = SymbolHeader {
         section: bytes[0],
         size: halfword_at(bytes, 1),
         offset: longword_at(bytes, 3),
@@ -93,8 +94,8 @@ fn symbol_at<'a>(
         (symbol_at total sizes.now (read_in before.now) bytes.now) }
     ensures memory { IfErr result (λ fault. fault ≢ faults.NoMemory) }
 {
-    let (front, behind) = front_at(total, bytes)?;
-    let (name, rest) = taken(total, usize::from(front.size), behind)?;
+    let (front, behind) = header_at(total, bytes)?;
+    let (name, rest) = take_bytes(total, usize::from(front.size), behind)?;
     let bad = ModuleFault::Symbol(before.len() as u32);
     let Some(section) = SymbolSection::of(front.section) else {
         return Err(bad);

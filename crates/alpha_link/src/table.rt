@@ -1,7 +1,7 @@
 //! The table of names.
 
 ghost use Rattle.alpha_names.specs.Finder.{number_in};
-ghost use Rattle.alpha_link.specs.Standings.{front, AreEntered};
+ghost use Rattle.alpha_link.specs.GlobalSymbols.{used_symbols, AreEntered};
 
 use crate::row::Row;
 use alpha_names::Numbers;
@@ -13,5 +13,5 @@ pub(crate) struct Names<'p, 'm> {
     pub row: Row<'p, 'm>,
     /// The numbers of those that are defined.
     pub numbers: Numbers<'m>,
-    ghost entered: { AreEntered (front row) (number_in numbers) },
+    ghost entered: { AreEntered (used_symbols row) (number_in numbers) },
 }

@@ -1,5 +1,6 @@
 -- The laws of memory. The functions of `src/laws.rt` carry them as their contracts.
-use Rattle.std.proofs.Common.{◌≡◌, ℕ, zero, suc, ◌+◌, ◌-◌, ◌%◌, ◌^◌, ◌<◌, ◌≤◌, ◌⊎◌, Bool, true, List, [], ◌∷◌, ◌++◌, length, get_or, None, IsTrue, sym, ap, subst, ◌∙◌, arith}
+use Rattle.std.proofs.Common.{◌≡◌, ℕ, zero, suc, ◌+◌, ◌-◌, ◌%◌, ◌^◌, ◌<◌, ◌≤◌, ◌⊎◌, Bool, true, List, [], ◌∷◌, ◌++◌}
+use Rattle.std.proofs.Common.{length, get_or, None, IsTrue, sym, ap, subst, ◌∙◌, arith}
 use Rattle.std.specs.List.{list_any, slice_index}
 use Rattle.std.proofs.lemmas.List.{ext_get_or}
 use Rattle.alpha_words.specs.Digits.{little, low_bytes}
@@ -15,7 +16,8 @@ use Rattle.alpha_mem.proofs.Places as places
 use Rattle.alpha_mem.proofs.Memories as memories
 
 -- a range of some bytes lies in one block
-in_one : (m : List Block) (a n : ℕ) → 0 < n → IsTrue (within (shapes m) Load a n) → list_any (λ s. holds s a n) (shapes m) ≡ true
+in_one : (m : List Block) (a n : ℕ) → 0 < n → IsTrue (within (shapes m) Load a n)
+    → list_any (λ s. holds s a n) (shapes m) ≡ true
 in_one m a n some there = sym (faults.within-one_block (shapes m) Load a n some) ∙ there
 
 -- a write leaves each block where it lies
@@ -23,33 +25,43 @@ pub shapes-write_bytes : (m : List Block) (a : ℕ) (xs : List ℕ) → shapes (
 shapes-write_bytes m a xs = bytes.shapes-write_bytes m a xs
 
 -- after a write of bytes a memory is still one
-pub IsMemory-write_bytes : (m : List Block) (a : ℕ) (xs : List ℕ) → IsMemory m → ((k : ℕ) → slice_index xs k < 256) → IsMemory (write_bytes m a xs)
+pub IsMemory-write_bytes : (m : List Block) (a : ℕ) (xs : List ℕ) → IsMemory m → ((k : ℕ) → slice_index xs k < 256)
+    → IsMemory (write_bytes m a xs)
 IsMemory-write_bytes m a xs memory small = memories.IsMemory-write_bytes m a xs memory small
 
 -- a byte outside the written range stays
-pub byte_at-write_bytes_outside : (m : List Block) (a : ℕ) (xs : List ℕ) (x : ℕ) → (x < a) ⊎ (a + length xs ≤ x) → byte_at (write_bytes m a xs) x ≡ byte_at m x
+pub byte_at-write_bytes_outside : (m : List Block) (a : ℕ) (xs : List ℕ) (x : ℕ) → (x < a) ⊎ (a + length xs ≤ x)
+    → byte_at (write_bytes m a xs) x ≡ byte_at m x
 byte_at-write_bytes_outside m a xs x outside = bytes.byte_at-write_bytes_outside m a xs x outside
 
 -- a byte inside the written range is the written one
-pub byte_at-write_bytes_inside : (m : List Block) (a : ℕ) (xs : List ℕ) (x : ℕ) → IsLayout (shapes m) → IsTrue (within (shapes m) Load a (length xs)) → a ≤ x → x < a + length xs → byte_at (write_bytes m a xs) x ≡ slice_index xs (x - a)
+pub byte_at-write_bytes_inside : (m : List Block) (a : ℕ) (xs : List ℕ) (x : ℕ)
+    → IsLayout (shapes m) → IsTrue (within (shapes m) Load a (length xs)) → a ≤ x → x < a + length xs
+    → byte_at (write_bytes m a xs) x ≡ slice_index xs (x - a)
 byte_at-write_bytes_inside m a xs x layout there low high =
     bytes.byte_at-write_bytes_inside m a xs x layout.apart (in_one m a (length xs) (omega arith) there) low high
 
 -- two writes, one after the other, are one write
-pub write_bytes-write_bytes : (m : List Block) (a : ℕ) (xs ys : List ℕ) → IsLayout (shapes m) → IsTrue (within (shapes m) Load a (length (xs ++ ys))) → write_bytes (write_bytes m a xs) (a + length xs) ys ≡ write_bytes m a (xs ++ ys)
+pub write_bytes-write_bytes : (m : List Block) (a : ℕ) (xs ys : List ℕ)
+    → IsLayout (shapes m) → IsTrue (within (shapes m) Load a (length (xs ++ ys)))
+    → write_bytes (write_bytes m a xs) (a + length xs) ys ≡ write_bytes m a (xs ++ ys)
 write_bytes-write_bytes m a [] [] layout there =
-    bytes.write_bytes-nothing (write_bytes m a []) (a + 0) (subst bytes.AreApart (sym (shapes-write_bytes m a [])) layout.apart)
+    bytes.write_bytes-nothing (write_bytes m a []) (a + 0)
+    (subst bytes.AreApart (sym (shapes-write_bytes m a [])) layout.apart)
 write_bytes-write_bytes m a [] (y ∷ ys) layout there =
     bytes.write_bytes-write_bytes m a [] (y ∷ ys) layout.apart (in_one m a (length (y ∷ ys)) (omega arith) there)
 write_bytes-write_bytes m a (x ∷ xs) ys layout there =
-    bytes.write_bytes-write_bytes m a (x ∷ xs) ys layout.apart (in_one m a (length ((x ∷ xs) ++ ys)) (omega arith) there)
+    bytes.write_bytes-write_bytes m a (x ∷ xs) ys layout.apart
+    (in_one m a (length ((x ∷ xs) ++ ys)) (omega arith) there)
 
 -- equal shapes and equal bytes make equal memories
-pub same_memory : (m n : List Block) → shapes m ≡ shapes n → IsLayout (shapes m) → ((x : ℕ) → byte_at m x ≡ byte_at n x) → m ≡ n
+pub same_memory : (m n : List Block) → shapes m ≡ shapes n → IsLayout (shapes m) → ((x : ℕ) → byte_at m x ≡ byte_at n x)
+    → m ≡ n
 same_memory m n e layout same = bytes.same_memory m n e layout.apart same
 
 -- the bytes of a range, one at a time
-pub slice_index-bytes_at : (m : List Block) (a n k : ℕ) → IsLayout (shapes m) → IsTrue (within (shapes m) Load a n) → k < n → slice_index (bytes_at m a n) k ≡ byte_at m (a + k)
+pub slice_index-bytes_at : (m : List Block) (a n k : ℕ) → IsLayout (shapes m) → IsTrue (within (shapes m) Load a n)
+    → k < n → slice_index (bytes_at m a n) k ≡ byte_at m (a + k)
 slice_index-bytes_at m a n k layout there less =
     bytes.get_or-bytes_at m a n k layout.apart (in_one m a n (omega arith) there) less
 
@@ -58,27 +70,36 @@ length-bytes_at m a zero there = ap length (places.bytes_at-empty m a)
 length-bytes_at m a (suc n) there = bytes.length-bytes_at m a (suc n) (in_one m a (suc n) (omega arith) there)
 
 -- what was written is read back
-pub bytes_at-write_bytes : (m : List Block) (a : ℕ) (xs : List ℕ) → IsLayout (shapes m) → IsTrue (within (shapes m) Load a (length xs)) → bytes_at (write_bytes m a xs) a (length xs) ≡ xs
+pub bytes_at-write_bytes : (m : List Block) (a : ℕ) (xs : List ℕ) → IsLayout (shapes m)
+    → IsTrue (within (shapes m) Load a (length xs)) → bytes_at (write_bytes m a xs) a (length xs) ≡ xs
 bytes_at-write_bytes m a xs layout there =
     let unmoved = shapes-write_bytes m a xs in
     let layout_after : IsLayout (shapes (write_bytes m a xs)) = subst IsLayout (sym unmoved) layout in
-    let there_after : IsTrue (within (shapes (write_bytes m a xs)) Load a (length xs)) = ap (λ ss. within ss Load a (length xs)) unmoved ∙ there in
+    let there_after : IsTrue (within (shapes (write_bytes m a xs)) Load a (length xs)) =
+    ap (λ ss. within ss Load a (length xs)) unmoved ∙ there in
     let sized = length-bytes_at (write_bytes m a xs) a (length xs) there_after in
     ext_get_or 0 (bytes_at (write_bytes m a xs) a (length xs)) xs sized (λ k less.
     let k_of : a + k - a ≡ k = omega arith in
-    slice_index-bytes_at (write_bytes m a xs) a (length xs) k layout_after there_after (omega arith) ∙ (byte_at-write_bytes_inside m a xs (a + k) layout there (omega arith) (omega arith) ∙ ap (λ j. get_or xs j 0) k_of))
+    slice_index-bytes_at (write_bytes m a xs) a (length xs) k layout_after there_after (omega arith)
+    ∙ (byte_at-write_bytes_inside m a xs (a + k) layout there (omega arith) (omega arith)
+    ∙ ap (λ j. get_or xs j 0) k_of))
 
 -- memories of equal shapes that agree on a range read alike there
-pub bytes_at-agree : (m n : List Block) (a k : ℕ) → shapes m ≡ shapes n → IsLayout (shapes m) → IsTrue (within (shapes m) Load a k) → ((x : ℕ) → a ≤ x → x < a + k → byte_at m x ≡ byte_at n x) → bytes_at m a k ≡ bytes_at n a k
+pub bytes_at-agree : (m n : List Block) (a k : ℕ) → shapes m ≡ shapes n → IsLayout (shapes m)
+    → IsTrue (within (shapes m) Load a k) → ((x : ℕ) → a ≤ x → x < a + k → byte_at m x ≡ byte_at n x)
+    → bytes_at m a k ≡ bytes_at n a k
 bytes_at-agree m n a k e layout there same =
     let there_too : IsTrue (within (shapes n) Load a k) = ap (λ ss. within ss Load a k) (sym e) ∙ there in
     let here = length-bytes_at m a k there in
     let there_sized = length-bytes_at n a k there_too in
     ext_get_or 0 (bytes_at m a k) (bytes_at n a k) (here ∙ sym there_sized) (λ j less.
-    slice_index-bytes_at m a k j layout there (omega arith) ∙ (same (a + j) (omega arith) (omega arith) ∙ sym (slice_index-bytes_at n a k j (subst IsLayout e layout) there_too (omega arith))))
+    slice_index-bytes_at m a k j layout there (omega arith)
+    ∙ (same (a + j) (omega arith) (omega arith)
+    ∙ sym (slice_index-bytes_at n a k j (subst IsLayout e layout) there_too (omega arith))))
 
 -- the number that a range of n bytes reads as
-pub little-bytes_at_lt : (m : List Block) (a n : ℕ) → IsMemory m → IsTrue (within (shapes m) Load a n) → little (bytes_at m a n) < 256 ^ n
+pub little-bytes_at_lt : (m : List Block) (a n : ℕ) → IsMemory m → IsTrue (within (shapes m) Load a n)
+    → little (bytes_at m a n) < 256 ^ n
 little-bytes_at_lt m a n memory there =
     let sized = length-bytes_at m a n there in
     let each : (k : ℕ) → k < length (bytes_at m a n) → get_or (bytes_at m a n) k 0 < 256 =
@@ -86,23 +107,27 @@ little-bytes_at_lt m a n memory there =
     subst (λ j. little (bytes_at m a n) < 256 ^ j) sized (numbers.little-lt (bytes_at m a n) each)
 
 -- a number's n lowest bytes are n
-pub length-low_bytes : (n v : ℕ) → length (low_bytes n v) ≡ n
-length-low_bytes n v = digits.length-digits 256 n v
+pub low_bytes-length : (n v : ℕ) → length (low_bytes n v) ≡ n
+low_bytes-length n v = digits.length-digits 256 n v
 
 -- what the stored bytes of a number read as
 pub little-low_bytes : (n v : ℕ) → little (low_bytes n v) ≡ v % 256 ^ n
 little-low_bytes n v = numbers.little-low_bytes n v
 
 -- each byte of an aligned access lies in a block exactly where one block has them all
-pub each_within-aligned : (ss : List Shape) (intent : Intent) (a n : ℕ) → IsLayout ss → 16 % n ≡ 0 → a % n ≡ 0 → each_within ss intent a n ≡ within ss intent a n
-each_within-aligned ss intent a n layout divides aligned = faults.each_within-aligned ss intent a n layout divides aligned
+pub each_within-aligned : (ss : List Shape) (intent : Intent) (a n : ℕ) → IsLayout ss → 16 % n ≡ 0 → a % n ≡ 0
+    → each_within ss intent a n ≡ within ss intent a n
+each_within-aligned ss intent a n layout divides aligned =
+    faults.each_within-aligned ss intent a n layout divides aligned
 
 -- an access with no fault has its bytes in one block
-pub within-granted : (ss : List Shape) (intent : Intent) (a n : ℕ) → IsLayout ss → 16 % n ≡ 0 → fault_of ss intent a n ≡ None → IsTrue (within ss intent a n)
+pub within-granted : (ss : List Shape) (intent : Intent) (a n : ℕ) → IsLayout ss → 16 % n ≡ 0
+    → fault_of ss intent a n ≡ None → IsTrue (within ss intent a n)
 within-granted ss intent a n layout divides granted = faults.within-granted ss intent a n layout divides granted
 
 -- and ends at or below 2 ^ 30
-pub granted-below : (ss : List Shape) (intent : Intent) (a n : ℕ) → IsLayout ss → fault_of ss intent a n ≡ None → a + n ≤ 2 ^ 30
+pub granted-below : (ss : List Shape) (intent : Intent) (a n : ℕ) → IsLayout ss → fault_of ss intent a n ≡ None
+    → a + n ≤ 2 ^ 30
 granted-below ss intent a n layout granted = faults.granted-below ss intent a n layout granted
 
 -- what a store may write, a load may read
@@ -110,14 +135,18 @@ pub within-readable : (ss : List Shape) (a n : ℕ) → IsTrue (within ss Store 
 within-readable ss a n there = faults.within-readable ss a n there
 
 -- a part of a range within one block lies within it
-pub within-part : (ss : List Shape) (intent : Intent) (a n b k : ℕ) → IsTrue (within ss intent a n) → a ≤ b → b + k ≤ a + n → IsTrue (within ss intent b k)
+pub within-part : (ss : List Shape) (intent : Intent) (a n b k : ℕ) → IsTrue (within ss intent a n) → a ≤ b
+    → b + k ≤ a + n → IsTrue (within ss intent b k)
 within-part ss intent a n b k there low high = faults.within-part ss intent a n b k there low high
 
 -- a range of some bytes ends at or below 2 ^ 30
-pub within-below : (ss : List Shape) (intent : Intent) (a n : ℕ) → IsLayout ss → 0 < n → IsTrue (within ss intent a n) → a + n ≤ 2 ^ 30
+pub within-below : (ss : List Shape) (intent : Intent) (a n : ℕ) → IsLayout ss → 0 < n → IsTrue (within ss intent a n)
+    → a + n ≤ 2 ^ 30
 within-below ss intent a n layout some there = faults.within-below ss intent a n layout some there
 
 -- free addresses that a new block doesn't take stay free
-pub IsFree-push : (m : List Block) (first : ℕ) (xs : List ℕ) (zeroed : ℕ) (writable : Bool) (a n : ℕ) → IsFree (shapes m) a n → (a + n ≤ first) ⊎ (first + length xs + zeroed ≤ a) → IsFree (shapes (m ++ block first xs zeroed writable ∷ [])) a n
+pub IsFree-push : (m : List Block) (first : ℕ) (xs : List ℕ) (zeroed : ℕ) (writable : Bool) (a n : ℕ)
+    → IsFree (shapes m) a n → (a + n ≤ first) ⊎ (first + length xs + zeroed ≤ a)
+    → IsFree (shapes (m ++ block first xs zeroed writable ∷ [])) a n
 IsFree-push m first xs zeroed writable a n free apart =
     memories.IsFree-push m first xs zeroed writable a n free apart

@@ -1,5 +1,6 @@
 -- Numbers and their little-endian bytes.
-use Rattle.std.proofs.Common.{◌≡◌, ℕ, zero, suc, ◌+◌, ◌-◌, ◌*◌, ◌/◌, ◌%◌, ◌^◌, ◌<◌, ◌≤◌, List, [], ◌∷◌, ◌++◌, length, get_or, take, drop, replicate, ap, ◌∙◌, arith}
+use Rattle.std.proofs.Common.{◌≡◌, ℕ, zero, suc, ◌+◌, ◌-◌, ◌*◌, ◌/◌, ◌%◌, ◌^◌, ◌<◌, ◌≤◌, List, [], ◌∷◌, ◌++◌, length}
+use Rattle.std.proofs.Common.{get_or, take, drop, replicate, ap, ◌∙◌, arith}
 use Rattle.std.specs.Int.{w64, from_le_bytes, to_le_bytes}
 use Rattle.std.proofs.lemmas.List.{drop-replicate, length-append, length-replicate}
 use Rattle.std.proofs.Math.Arith.{mod-mul}
@@ -11,20 +12,26 @@ use Rattle.alpha_mem.specs.Size.{size_of}
 use Rattle.alpha_words.specs.Digits.{digits, number, low_bytes, little}
 use Rattle.alpha_words.proofs.DigitLemmas.{number-zeros_above, bytes_low_first-digits}
 
-eight : (b0 b1 b2 b3 b4 b5 b6 b7 : ℕ) → from_le_bytes w64 (b0 ∷ b1 ∷ b2 ∷ b3 ∷ b4 ∷ b5 ∷ b6 ∷ b7 ∷ []) ≡ little (b0 ∷ b1 ∷ b2 ∷ b3 ∷ b4 ∷ b5 ∷ b6 ∷ b7 ∷ [])
+from_le_bytes-eight : (b0 b1 b2 b3 b4 b5 b6 b7 : ℕ)
+    → from_le_bytes w64 (b0 ∷ b1 ∷ b2 ∷ b3 ∷ b4 ∷ b5 ∷ b6 ∷ b7 ∷ [])
+    ≡ little (b0 ∷ b1 ∷ b2 ∷ b3 ∷ b4 ∷ b5 ∷ b6 ∷ b7 ∷ [])
 unfolding number
-eight b0 b1 b2 b3 b4 b5 b6 b7 = omega arith
+from_le_bytes-eight b0 b1 b2 b3 b4 b5 b6 b7 = omega arith
 
 pub from_le_bytes-little : (bs : List ℕ) → length bs ≡ 8 → from_le_bytes w64 bs ≡ little bs
-from_le_bytes-little (b0 ∷ b1 ∷ b2 ∷ b3 ∷ b4 ∷ b5 ∷ b6 ∷ b7 ∷ []) e = eight b0 b1 b2 b3 b4 b5 b6 b7
+from_le_bytes-little (b0 ∷ b1 ∷ b2 ∷ b3 ∷ b4 ∷ b5 ∷ b6 ∷ b7 ∷ []) e = from_le_bytes-eight b0 b1 b2 b3 b4 b5 b6 b7
 from_le_bytes-little _ e = absurd (omega arith)
 
 -- a number of at most eight bytes, read as one of eight
-pub from_le_bytes-padded : (bs : List ℕ) → length bs ≤ 8 → from_le_bytes w64 (bs ++ drop (length bs) (replicate 8 0)) ≡ little bs
+pub from_le_bytes-padded : (bs : List ℕ) → length bs ≤ 8
+    → from_le_bytes w64 (bs ++ drop (length bs) (replicate 8 0)) ≡ little bs
 from_le_bytes-padded bs fits =
-    let zeros : drop (length bs) (replicate {A = ℕ} 8 0) ≡ replicate (8 - length bs) 0 = drop-replicate (length bs) 8 0 in
-    let sized : length (bs ++ replicate (8 - length bs) 0) ≡ 8 = omega (arith, length-append bs (replicate (8 - length bs) 0), length-replicate {A = ℕ} (8 - length bs) 0) in
-    ap (λ t. from_le_bytes w64 (bs ++ t)) zeros ∙ (from_le_bytes-little _ sized ∙ number-zeros_above 256 (8 - length bs) bs)
+    let zeros : drop (length bs) (replicate {A = ℕ} 8 0) ≡ replicate (8 - length bs) 0 =
+    drop-replicate (length bs) 8 0 in
+    let sized : length (bs ++ replicate (8 - length bs) 0) ≡ 8 =
+    omega (arith, length-append bs (replicate (8 - length bs) 0), length-replicate {A = ℕ} (8 - length bs) 0) in
+    ap (λ t. from_le_bytes w64 (bs ++ t)) zeros
+    ∙ (from_le_bytes-little _ sized ∙ number-zeros_above 256 (8 - length bs) bs)
 
 -- a number of n digits
 pub little-lt : (xs : List ℕ) → ((k : ℕ) → k < length xs → get_or xs k 0 < 256) → little xs < 256 ^ length xs
@@ -72,12 +79,15 @@ unfolding number
 little-two (b0 ∷ b1 ∷ []) e = omega arith
 little-two _ e = absurd (omega arith)
 
-pub little-four : (bs : List ℕ) → length bs ≡ 4 → little bs ≡ get_or bs 0 0 + get_or bs 1 0 * 256 + get_or bs 2 0 * 65536 + get_or bs 3 0 * 16777216
+pub little-four : (bs : List ℕ) → length bs ≡ 4
+    → little bs ≡ get_or bs 0 0 + get_or bs 1 0 * 256 + get_or bs 2 0 * 65536 + get_or bs 3 0 * 16777216
 unfolding number
 little-four (b0 ∷ b1 ∷ b2 ∷ b3 ∷ []) e = omega arith
 little-four _ e = absurd (omega arith)
 
-pub little-eight : (bs : List ℕ) → length bs ≡ 8 → little bs ≡ get_or bs 0 0 + get_or bs 1 0 * 256 + get_or bs 2 0 * 65536 + get_or bs 3 0 * 16777216 + get_or bs 4 0 * 4294967296 + get_or bs 5 0 * 1099511627776 + get_or bs 6 0 * 281474976710656 + get_or bs 7 0 * 72057594037927936
+pub little-eight : (bs : List ℕ) → length bs ≡ 8 → little bs ≡ get_or bs 0 0 + get_or bs 1 0 * 256
+    + get_or bs 2 0 * 65536 + get_or bs 3 0 * 16777216 + get_or bs 4 0 * 4294967296 + get_or bs 5 0 * 1099511627776
+    + get_or bs 6 0 * 281474976710656 + get_or bs 7 0 * 72057594037927936
 unfolding number
 little-eight (b0 ∷ b1 ∷ b2 ∷ b3 ∷ b4 ∷ b5 ∷ b6 ∷ b7 ∷ []) e = omega arith
 little-eight _ e = absurd (omega arith)

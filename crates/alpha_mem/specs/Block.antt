@@ -1,5 +1,6 @@
 -- Blocks of memory, and where they lie.
-use Rattle.std.specs.Prelude.{ℕ, ◌+◌, ◌-◌, ◌==◌, Bool, true, ◌&&◌, ◌||◌, List, ◌++◌, length, map, take, drop, replicate, nat_le}
+use Rattle.std.specs.Prelude.{ℕ, ◌+◌, ◌-◌, ◌==◌, Bool, true, ◌&&◌, ◌||◌, List, ◌++◌, length, map, take, drop, replicate}
+use Rattle.std.specs.Prelude.{nat_le}
 use Rattle.std.specs.List.{list_any}
 use Rattle.alpha_mem.specs.Intent.{Intent, Load, Store}
 

@@ -19,15 +19,16 @@
 //! stands at an address and what a write leaves, and what holds of each memory. `specs/Fault.antt`
 //! says when a load or a store (`specs/Intent.antt`) faults, from where the blocks lie alone. Numbers
 //! are stored as their bytes, the lowest first (`alpha_words`, `specs/Digits.antt`). `src/region.rt`
-//! has one region, `src/memory.rt` all of them, and `src/near.rt` the loads and stores that look at one region first.
+//! has one region, `src/memory.rt` all of them, and `src/region_hint.rt` the loads and stores that look at one region
+//! first.
 #![tactic(auto)]
 
 mod access;
 mod laws;
 mod memory;
-mod near;
 mod number;
 mod region;
+mod region_hint;
 
 pub use access::{MemFault, Size};
 pub use laws::{

@@ -1,4 +1,4 @@
-pub mod Searching
-pub mod Finding
-pub mod Naming
-pub mod Values
+pub mod TreeSearches
+pub mod NumberLookups
+pub mod NumberedNames
+pub mod NameValues

@@ -1,5 +1,6 @@
 -- What a search in a tree of slots finds. A tree is a slot at each place, most of which are free.
-use Rattle.std.specs.Prelude.{◌≡◌, ℕ, zero, suc, ◌+◌, ◌-◌, ◌*◌, ◌/◌, ◌%◌, ◌^◌, ◌<◌, List, slice_index_or, nat_eq, false, if◌then◌else◌}
+use Rattle.std.specs.Prelude.{◌≡◌, ℕ, zero, suc, ◌+◌, ◌-◌, ◌*◌, ◌/◌, ◌%◌, ◌^◌, ◌<◌, List, slice_index_or, nat_eq, false}
+use Rattle.std.specs.Prelude.{if◌then◌else◌}
 use Rattle.alpha_names.specs.declared.tree.Entry.{Entry}
 use Rattle.alpha_names.specs.declared.tree.Slot.{Slot}
 use Rattle.alpha_names.specs.declared.tree.Tree.{Tree}

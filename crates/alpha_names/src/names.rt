@@ -1,4 +1,5 @@
-ghost use Rattle.std.specs.Prelude.{◌≡◌, ◌++◌, ◌∷◌, [], List, ℕ, Some, is_none, option_map, map, position, slice_get, length, IfOk, IfSome, OnErr, if◌then◌else◌};
+ghost use Rattle.std.specs.Prelude.{◌≡◌, ◌++◌, ◌∷◌, [], List, ℕ, Some, is_none, option_map, map, position, slice_get};
+ghost use Rattle.std.specs.Prelude.{length, IfOk, IfSome, OnErr, if◌then◌else◌};
 ghost use Rattle.std.specs.Str.{bytes_eq};
 
 use crate::numbers::Numbers;
@@ -7,10 +8,10 @@ use std::marker::Model;
 
 /// Names, each once. The number of a name is how many were added before it.
 ///
-/// A look-up computes a hash and searches a tree for it. Where that finds another name, or too many slots, it computes a
-/// second hash and searches a second tree; where that does so too, it searches a map in the order of names. So whatever
-/// the names are, it takes the time of reading the name a few times, of going over 20 slots of each tree, and of
-/// comparing it with some of the names in the map, a number that is logarithmic in how many there are.
+/// A look-up computes a hash and searches a tree for it. Where that finds another name, or too many slots, it computes
+/// a second hash and searches a second tree; where that does so too, it searches a map in the order of names. So
+/// whatever the names are, it takes the time of reading the name a few times, of going over 20 slots of each tree, and
+/// of comparing it with some of the names in the map, a number that is logarithmic in how many there are.
 #[derive(Drop)]
 pub struct Names<'a> {
     names: Vec<&'a [u8]>,

@@ -69,9 +69,9 @@ impl Entry {
     }
 }
 
-/// Numbers of names by their hashes. A search begins at one of the roots, and goes down from slot to slot by a bit of the
-/// hash each time, until it finds a free slot or one whose mark is that of the hash. The two slots below one have their
-/// places by its number, so that a slot takes eight bytes.
+/// Numbers of names by their hashes. A search begins at one of the roots, and goes down from slot to slot by a bit of
+/// the hash each time, until it finds a free slot or one whose mark is that of the hash. The two slots below one have
+/// their places by its number, so that a slot takes eight bytes.
 #[derive(Drop)]
 pub(crate) struct Tree {
     entries: Vec<Entry>,
@@ -129,7 +129,7 @@ impl Tree {
     {
         let entry = Entry {
             mark: (hash % 4_294_967_296) as u32,
-            next: behind(number)?,
+            next: next_number(number)?,
         };
         let below = ROOTS + 2 * number;
         self.put(place, entry, below + 2)
@@ -153,7 +153,7 @@ impl Tree {
 
 // One more than a number, in 32 bits. That a source has fewer names, or modules fewer symbols, is no clause: a greater
 // number counts as want of memory.
-fn behind(number: usize) -> Result<u32, AllocError>
+fn next_number(number: usize) -> Result<u32, AllocError>
     ensures value { IfOk result (λ n. n ≡ number + 1) }
     ensures bound { IfOk result (λ n. n < 2 ^ 32) }
 {

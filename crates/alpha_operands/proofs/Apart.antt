@@ -1,5 +1,6 @@
 -- Where two patterns of a shape differ first, they differ in the form of a token.
-use Rattle.std.proofs.Common.{◌≡◌, List, [], ◌∷◌, ◌++◌, Bool, true, false, not, cond, ◌&&◌, if◌then◌else◌, refl, inl, inr}
+use Rattle.std.proofs.Common.{◌≡◌, List, [], ◌∷◌, ◌++◌, Bool, true, false, not, cond, ◌&&◌, if◌then◌else◌, refl, inl}
+use Rattle.std.proofs.Common.{inr}
 use Rattle.std.proofs.lemmas.Bool.{and_parts}
 use Rattle.alpha_operands.specs.declared.piece.Piece.{Piece}
 use Rattle.alpha_operands.specs.declared.shape.Shape.{Shape}
@@ -29,16 +30,20 @@ one_from_each p q (x ∷ qs) h m =
     let (a, b) = and_parts (apart p x) (apart_from_each p qs) h in
     elim m [ inl e ↦ rw (← e) a | inr n ↦ one_from_each p q qs b n ]
 
-two_apart : (p q : Pattern) (ps qs : List Pattern) → each_apart ps qs ≡ true → IsOneOf p ps → IsOneOf q qs → apart p q ≡ true
+two_apart : (p q : Pattern) (ps qs : List Pattern) → each_apart ps qs ≡ true → IsOneOf p ps → IsOneOf q qs
+    → apart p q ≡ true
 two_apart p q [] qs h m n = absurd m
 two_apart p q (x ∷ ps) qs h m n =
     let (a, b) = and_parts (apart_from_each x qs) (each_apart ps qs) h in
     elim m [ inl e ↦ rw (← e) (one_from_each x q qs a n) | inr k ↦ two_apart p q ps qs b k n ]
 
-behind_front : (front : Pattern) (a b : Piece) (x y : Pattern) → apart (front ++ a ∷ x) (front ++ b ∷ y) ≡ true → kind_of a ≡ kind_of b → a ≡ b
+behind_front : (front : Pattern) (a b : Piece) (x y : Pattern) → apart (front ++ a ∷ x) (front ++ b ∷ y) ≡ true
+    → kind_of a ≡ kind_of b → a ≡ b
 behind_front [] a b x y h k =
-    let test : (v : Bool) → same_piece a b ≡ v → cond v (apart x y) (not (same_kind (kind_of a) (kind_of b))) ≡ true → a ≡ b =
-    λ v. elim v as (λ w. same_piece a b ≡ w → cond w (apart x y) (not (same_kind (kind_of a) (kind_of b))) ≡ true → a ≡ b) [
+    let test : (v : Bool) → same_piece a b ≡ v → cond v (apart x y) (not (same_kind (kind_of a) (kind_of b))) ≡ true
+    → a ≡ b =
+    λ v.
+    elim v as (λ w. same_piece a b ≡ w → cond w (apart x y) (not (same_kind (kind_of a) (kind_of b))) ≡ true → a ≡ b) [
       | true ↦ λ e g. same_piece-is a b e
       | false ↦ λ e g. let no : false ≡ true = rw (same_kind-same (kind_of a) (kind_of b) k) at g in cc
     ] in
@@ -46,7 +51,11 @@ behind_front [] a b x y h k =
 behind_front (c ∷ front) a b x y h k = behind_front front a b x y (rw (same_piece-same c) at h) k
 
 distinct : (all : List Pattern) → each_apart all all ≡ true → Distinct all
-distinct all h = record { same = λ front p x (r, m) (s, n) k. behind_front front p x r s (two_apart (front ++ p ∷ r) (front ++ x ∷ s) all all h m n) k }
+distinct all h =
+    record {
+      same = λ front p x (r, m) (s, n) k.
+          behind_front front p x r s (two_apart (front ++ p ∷ r) (front ++ x ∷ s) all all h m n) k;
+    }
 
 pub shapes-distinct : (s : Shape) → Distinct (patterns s)
 unfolding patterns

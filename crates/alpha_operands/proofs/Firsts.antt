@@ -14,17 +14,20 @@ use Rattle.alpha_operands.specs.declared.shape.Shape.TheVariants as shapes
 use Rattle.alpha_operands.specs.Ranges.{number_of}
 use Rattle.alpha_operands.specs.Shapes.{patterns}
 use Rattle.alpha_operands.specs.Operands.{filled}
-use Rattle.alpha_operands.specs.Values.{number, label, list_shape, first_value, next_of, number_piece, HasNumber, HasLabel, IsPast}
+use Rattle.alpha_operands.specs.Values.{number, label, list_shape, first_value, next_of, number_piece, HasNumber}
+use Rattle.alpha_operands.specs.Values.{HasLabel, IsPast}
 
-pub token-comma : (s : List ℕ) → tokens (44 ∷ s) ≡ Next (record { kind = kinds.Comma; text = 44 ∷ []; rest = s }) (tokens s)
+pub comma-tokens : (s : List ℕ)
+    → tokens (44 ∷ s) ≡ Next (record { kind = kinds.Comma; text = 44 ∷ []; rest = s }) (tokens s)
 unfolding tokens token_at
-token-comma s = refl
+comma-tokens s = refl
 
 -- the value of a number in a list of a shape, where it has one
 abbrev pub number_in : Shape → Sign → ℕ → Option Number
 number_in shape sign n = option_and_then (λ piece. number_of piece sign n) (number_piece shape)
 
-pub first-number : (shape : Shape) (sign : Sign) (t : Lexeme) (v : ℕ) (list rest : List ℕ) → HasNumber list sign t → number_in shape sign (number_value t.text) ≡ Some (numbers.Value v) → IsPast t.rest rest →
+pub first-number : (shape : Shape) (sign : Sign) (t : Lexeme) (v : ℕ) (list rest : List ℕ) → HasNumber list sign t
+    → number_in shape sign (number_value t.text) ≡ Some (numbers.Value v) → IsPast t.rest rest →
     first_value shape list ≡ Some (number v, rest)
 unfolding first_value patterns filled
 first-number shapes.Bytes signs.Plus t v list rest (k, e) is (inl (p, z)) = rw (e, k, is, p, z) refl
@@ -45,7 +48,8 @@ first-number shapes.Quads signs.Minus t v list rest (m, (l, f), (k, e)) is (inl 
 first-number shapes.Quads signs.Minus t v list rest (m, (l, f), (k, e)) is (inr p) = rw (f, l, e, k, is, p) refl
 first-number shape sign t v list rest has is past = cc
 
-pub first-label : (t : Lexeme) (list rest : List ℕ) → HasLabel list t → is_label t.text ≡ true → IsPast t.rest rest → first_value shapes.Quads list ≡ Some (label t.text (pos 0), rest)
+pub first-label : (t : Lexeme) (list rest : List ℕ) → HasLabel list t → is_label t.text ≡ true → IsPast t.rest rest
+    → first_value shapes.Quads list ≡ Some (label t.text (pos 0), rest)
 unfolding first_value patterns filled
 first-label t list rest (k, e) is (inl (p, z)) = rw (e, k, is, p, z) refl
 first-label t list rest (k, e) is (inr p) = rw (e, k, is, p) refl

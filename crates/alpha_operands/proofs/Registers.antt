@@ -1,5 +1,6 @@
 -- The row of a register is found by its name.
-use Rattle.std.proofs.Common.{◌≡◌, ℕ, ◌<◌, List, [], ◌∷◌, Bool, true, false, ◌==◌, Option, Some, None, length, get_or, map, refl, ap, inl, inr, arith}
+use Rattle.std.proofs.Common.{◌≡◌, ℕ, ◌<◌, List, [], ◌∷◌, Bool, true, false, ◌==◌, Option, Some, None, length, get_or}
+use Rattle.std.proofs.Common.{map, refl, ap, inl, inr, arith}
 use Prim.Native.Nat.{zero, suc}
 use Rattle.std.specs.List.{list_all}
 use Rattle.std.proofs.lemmas.Bool.Decides.{nat_tests}
@@ -19,7 +20,8 @@ number_is (Some m) n h = let e : m ≡ n = grind (arith, nat_tests) in ap Some e
 abbrev pub are_first : List (List ℕ × ℕ) → List (List ℕ × ℕ) → Bool
 are_first all rows = list_all (λ row. is_number (named all row.0) row.1) rows
 
-pub first_of : (all rows : List (List ℕ × ℕ)) (name : List ℕ) (n : ℕ) → are_first all rows ≡ true → HasRow rows name n → named all name ≡ Some n
+pub first_of : (all rows : List (List ℕ × ℕ)) (name : List ℕ) (n : ℕ) → are_first all rows ≡ true → HasRow rows name n
+    → named all name ≡ Some n
 first_of all [] name n h m = absurd m
 first_of all (row ∷ rows) name n h m =
     let (a, b) = and_parts (is_number (named all row.0) row.1) (are_first all rows) h in
@@ -29,10 +31,12 @@ first_of all (row ∷ rows) name n h m =
     ]
 
 -- some row of a list
-pub row_at : (rows : List Row) (i : ℕ) (d : Row) (name : List ℕ) (n : ℕ) → i < length rows → (get_or rows i d).name.now ≡ name → (get_or rows i d).number ≡ n → HasRow (map (λ r. (r.name.now, r.number)) rows) name n
-row_at [] i d name n inside e f = absurd (omega arith)
-row_at (row ∷ rows) zero d name n inside e f = inl (e, f)
-row_at (row ∷ rows) (suc i) d name n inside e f = inr (row_at rows i d name n (omega arith) e f)
+pub register_row-at : (rows : List Row) (i : ℕ) (d : Row) (name : List ℕ) (n : ℕ)
+    → i < length rows → (get_or rows i d).name.now ≡ name → (get_or rows i d).number ≡ n
+    → HasRow (map (λ r. (r.name.now, r.number)) rows) name n
+register_row-at [] i d name n inside e f = absurd (omega arith)
+register_row-at (row ∷ rows) zero d name n inside e f = inl (e, f)
+register_row-at (row ∷ rows) (suc i) d name n inside e f = inr (register_row-at rows i d name n (omega arith) e f)
 
 pub registers-first : are_first registers registers ≡ true
 unfolding registers

@@ -44,4 +44,5 @@ register_of name = option_and_then numbered (named registers name)
 
 -- the half of an address that an operator names
 abbrev pub operator_of : List ℕ → Option Half
-operator_of name = if bytes_eq name (codes "%hi") then Some High else if bytes_eq name (codes "%lo") then Some Low else None
+operator_of name =
+    if bytes_eq name (codes "%hi") then Some High else if bytes_eq name (codes "%lo") then Some Low else None

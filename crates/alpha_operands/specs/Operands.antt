@@ -1,5 +1,6 @@
 -- The operands of a statement, filled in token by token.
-use Rattle.std.specs.Prelude.{◌≡◌, ℕ, ℤ, pos, List, ◌-◌, Option, None, Some, Result, Ok, Err, length, take, drop, if◌then◌else◌}
+use Rattle.std.specs.Prelude.{◌≡◌, ℕ, ℤ, pos, List, ◌-◌, Option, None, Some, Result, Ok, Err, length, take, drop}
+use Rattle.std.specs.Prelude.{if◌then◌else◌}
 use Rattle.std.specs.Option.{option_map}
 use Rattle.alpha_token.specs.Bytes.{is_label}
 use Rattle.alpha_token.specs.Numeral.{number_value}
@@ -8,7 +9,8 @@ use Rattle.alpha_operands.specs.declared.names.Half.{Half}
 use Rattle.alpha_operands.specs.declared.number.Number.{Number}
 use Rattle.alpha_operands.specs.declared.number.Sign.{Sign}
 use Rattle.alpha_operands.specs.declared.piece.Piece.{Piece}
-use Rattle.alpha_operands.specs.declared.piece.Piece.TheVariants.{Ra, Rb, Rc, Comma, Again, Open, Close, Minus, Plus, Less, Dot, Operator, Label, Offset, Text}
+use Rattle.alpha_operands.specs.declared.piece.Piece.TheVariants.{Ra, Rb, Rc, Comma, Again, Open, Close, Minus, Plus}
+use Rattle.alpha_operands.specs.declared.piece.Piece.TheVariants.{Less, Dot, Operator, Label, Offset, Text}
 use Rattle.alpha_operands.specs.declared.operands.LineFaultKind.{LineFaultKind}
 use Rattle.alpha_operands.specs.declared.operands.LineFaultKind.TheVariants.{UnknownName, BadOperands, OutOfRange}
 use Rattle.alpha_operands.specs.declared.operands.Operands.{Operands}
@@ -47,7 +49,17 @@ Gives view (Err e) given = given ≡ Err e
 
 -- no operands yet
 abbrev pub nothing : Slots
-nothing = record { ra = None; rb = None; rc = None; number = None; half = None; label = None; offset = pos 0; text = None; left = 0 }
+nothing = record {
+  ra = None;
+  rb = None;
+  rc = None;
+  number = None;
+  half = None;
+  label = None;
+  offset = pos 0;
+  text = None;
+  left = 0;
+}
 
 -- what stands between the quotes of a string
 abbrev pub between_quotes : List ℕ → List ℕ
@@ -63,9 +75,12 @@ unfoldable pub filled : Piece → Lexeme → Sign → Slots → Result Slots Lin
 filled Ra t sign o = with_value (register_of t.text) UnknownName (λ r. record o { ra = Some r; left = length t.rest })
 filled Rb t sign o = with_value (register_of t.text) UnknownName (λ r. record o { rb = Some r; left = length t.rest })
 filled Rc t sign o = with_value (register_of t.text) UnknownName (λ r. record o { rc = Some r; left = length t.rest })
-filled Operator t sign o = with_value (operator_of t.text) UnknownName (λ half. record o { half = Some half; left = length t.rest })
-filled Label t sign o = if is_label t.text then Ok (record o { label = Some t.text; left = length t.rest }) else Err BadOperands
-filled Offset t sign o = with_value (offset_of sign (number_value t.text)) OutOfRange (λ n. record o { offset = n; left = length t.rest })
+filled Operator t sign o =
+    with_value (operator_of t.text) UnknownName (λ half. record o { half = Some half; left = length t.rest })
+filled Label t sign o =
+    if is_label t.text then Ok (record o { label = Some t.text; left = length t.rest }) else Err BadOperands
+filled Offset t sign o =
+    with_value (offset_of sign (number_value t.text)) OutOfRange (λ n. record o { offset = n; left = length t.rest })
 filled Text t sign o = Ok (record o { text = Some (between_quotes t.text); left = length t.rest })
 filled Comma t sign o = Ok (record o { left = length t.rest })
 filled Again t sign o = Ok (record o { left = length t.rest })
@@ -75,4 +90,6 @@ filled Minus t sign o = Ok (record o { left = length t.rest })
 filled Plus t sign o = Ok (record o { left = length t.rest })
 filled Less t sign o = Ok (record o { left = length t.rest })
 filled Dot t sign o = Ok (record o { left = length t.rest })
-filled p t sign o = with_value (number_of p sign (number_value t.text)) OutOfRange (λ n. record o { number = Some n; left = length t.rest })
+filled p t sign o =
+    with_value (number_of p sign (number_value t.text)) OutOfRange
+    (λ n. record o { number = Some n; left = length t.rest })

@@ -3,7 +3,11 @@ use Rattle.std.specs.Prelude.{ℕ, Bool, ◌==◌}
 use Rattle.alpha_token.specs.declared.token.TokenKind.{TokenKind}
 use Rattle.alpha_token.specs.declared.token.TokenKind.TheVariants as kinds
 use Rattle.alpha_operands.specs.declared.piece.Piece.{Piece}
-use Rattle.alpha_operands.specs.declared.piece.Piece.TheVariants.{Ra, Rb, Rc, Comma, Again, Open, Close, Minus, Plus, Less, Dot, Operator, Label, Offset, Text, Displacement, Immediate, Literal, Hint, Distance, Whole, Zeroed, Align, Level, Pal, Nothing, Byte, Word, Long, Quad}
+use Rattle.alpha_operands.specs.declared.piece.Piece.TheVariants.{Ra, Rb, Rc, Comma, Again, Open, Close, Minus, Plus}
+use Rattle.alpha_operands.specs.declared.piece.Piece.TheVariants.{Less, Dot, Operator, Label, Offset, Text}
+use Rattle.alpha_operands.specs.declared.piece.Piece.TheVariants.{Displacement, Immediate, Literal, Hint, Distance}
+use Rattle.alpha_operands.specs.declared.piece.Piece.TheVariants.{Whole, Zeroed, Align, Level, Pal, Nothing, Byte, Word}
+use Rattle.alpha_operands.specs.declared.piece.Piece.TheVariants.{Long, Quad}
 
 -- the form of the token that spells a piece
 abbrev pub kind_of : Piece → TokenKind

@@ -1,5 +1,6 @@
 -- The numbers of operands and their ranges.
-use Rattle.std.specs.Prelude.{⊤, ◌<◌, ◌≤◌, ℕ, ℤ, pos, neg_ℤ, ◌-ℤ◌, Bool, Option, None, Some, ◌==◌, ◌&&◌, ◌||◌, ◌-◌, ◌/◌, ◌%◌, ◌^◌, nat_le, nat_lt, if◌then◌else◌}
+use Rattle.std.specs.Prelude.{⊤, ◌<◌, ◌≤◌, ℕ, ℤ, pos, neg_ℤ, ◌-ℤ◌, Bool, Option, None, Some, ◌==◌, ◌&&◌, ◌||◌, ◌-◌, ◌/◌}
+use Rattle.std.specs.Prelude.{◌%◌, ◌^◌, nat_le, nat_lt, if◌then◌else◌}
 use Rattle.std.specs.Option.{option_map}
 use Rattle.alpha_words.specs.declared.PalCall.{PalCall}
 use Rattle.alpha_table.specs.declared.form.Form.{Form}
@@ -11,7 +12,8 @@ use Rattle.alpha_operands.specs.declared.piece.Piece.TheVariants as pieces
 use Rattle.alpha_operands.specs.declared.number.Sign.{Sign}
 use Rattle.alpha_operands.specs.declared.number.Sign.TheVariants.{Plus, Minus}
 use Rattle.alpha_operands.specs.declared.number.Number.{Number}
-use Rattle.alpha_operands.specs.declared.number.Number.TheVariants.{Displacement, Immediate, Literal, Hint, Words, Whole, Zeroed, Align, Level, Call, Nothing, Value}
+use Rattle.alpha_operands.specs.declared.number.Number.TheVariants.{Displacement, Immediate, Literal, Hint, Words}
+use Rattle.alpha_operands.specs.declared.number.Number.TheVariants.{Whole, Zeroed, Align, Level, Call, Nothing, Value}
 
 -- a number with its sign
 abbrev pub signed : Sign → ℕ → ℤ

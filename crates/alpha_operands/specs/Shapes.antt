@@ -2,7 +2,11 @@
 use Rattle.std.specs.Prelude.{List, [], ◌∷◌, ◌++◌, map}
 use Rattle.std.specs.List.{flat_map}
 use Rattle.alpha_operands.specs.declared.piece.Piece.{Piece}
-use Rattle.alpha_operands.specs.declared.piece.Piece.TheVariants.{Ra, Rb, Rc, Comma, Again, Open, Close, Minus, Plus, Less, Dot, Operator, Label, Offset, Text, Displacement, Immediate, Literal, Hint, Distance, Whole, Zeroed, Align, Level, Pal, Nothing, Byte, Word, Long, Quad}
+use Rattle.alpha_operands.specs.declared.piece.Piece.TheVariants.{Ra, Rb, Rc, Comma, Again, Open, Close, Minus, Plus}
+use Rattle.alpha_operands.specs.declared.piece.Piece.TheVariants.{Less, Dot, Operator, Label, Offset, Text}
+use Rattle.alpha_operands.specs.declared.piece.Piece.TheVariants.{Displacement, Immediate, Literal, Hint, Distance}
+use Rattle.alpha_operands.specs.declared.piece.Piece.TheVariants.{Whole, Zeroed, Align, Level, Pal, Nothing, Byte, Word}
+use Rattle.alpha_operands.specs.declared.piece.Piece.TheVariants.{Long, Quad}
 use Rattle.alpha_operands.specs.declared.shape.Shape.{Shape}
 use Rattle.alpha_operands.specs.declared.shape.Shape.TheVariants as shapes
 

@@ -1,5 +1,6 @@
 -- The values of a list.
-use Rattle.std.specs.Prelude.{◌≡◌, ◌⊎◌, ◌≤◌, ◌<◌, ◌-◌, ◌*◌, ◌^◌, ℕ, ℤ, List, [], ◌∷◌, ◌++◌, length, Bool, Option, None, Some, Result, Ok, Err, ◌==◌, ◌&&◌, if◌then◌else◌}
+use Rattle.std.specs.Prelude.{◌≡◌, ◌⊎◌, ◌≤◌, ◌<◌, ◌-◌, ◌*◌, ◌^◌, ℕ, ℤ, List, [], ◌∷◌, ◌++◌, length, Bool, Option, None}
+use Rattle.std.specs.Prelude.{Some, Result, Ok, Err, ◌==◌, ◌&&◌, if◌then◌else◌}
 use Rattle.std.specs.Option.{option_map, option_and_then}
 use Rattle.alpha_token.specs.declared.token.TokenKind.{TokenKind}
 use Rattle.alpha_token.specs.declared.token.TokenKind.TheVariants as kinds
@@ -31,7 +32,8 @@ view (listed.Label e) = label e.label.now e.offset
 -- the shape of a list of values of a size
 abbrev pub list_shape : ℕ → Option Shape
 list_shape bytes =
-    if bytes == 1 then Some shapes.Bytes else if bytes == 2 then Some shapes.Words else if bytes == 4 then Some shapes.Longs
+    if bytes == 1 then Some shapes.Bytes else if bytes == 2 then Some shapes.Words else if bytes == 4
+    then Some shapes.Longs
     else if bytes == 8 then Some shapes.Quads else None
 
 -- the operands of one value, and the list behind its comma; the list is at its end where none is there
@@ -42,7 +44,8 @@ abbrev pub then_on : Result Slots LineFaultKind → (Slots → Option (Slots × 
 then_on (Err why) more = None
 then_on (Ok o) more = more o
 
-abbrev pub up_to_comma : Lexeme → Sign → Slots → Option Piece → (Piece → Slots → Option (Slots × List ℕ)) → Option (Slots × List ℕ)
+abbrev pub up_to_comma : Lexeme → Sign → Slots → Option Piece → (Piece → Slots → Option (Slots × List ℕ))
+    → Option (Slots × List ℕ)
 up_to_comma t sign o None more = None
 up_to_comma t sign o (Some pieces.Again) more = Some (o, t.rest)
 up_to_comma t sign o (Some p) more = then_on (filled p t sign o) (more p)
@@ -51,7 +54,8 @@ abbrev pub first_operands : List Pattern → Pattern → Sign → Tokens → Slo
 first_operands all front sign (End left) o = ended (left == 0 && is_whole all front) o
 first_operands all front sign (Bad left) o = None
 first_operands all front sign (Next t ts) o =
-    up_to_comma t sign o (piece_behind all front t.kind) (λ p filled. first_operands all (front_after front p) (sign_after p) ts filled)
+    up_to_comma t sign o (piece_behind all front t.kind)
+    (λ p filled. first_operands all (front_after front p) (sign_after p) ts filled)
 
 -- the value that the operands of one are
 abbrev pub value_in : Option Number → ℤ → Option (List ℕ) → Option Listed
@@ -65,7 +69,8 @@ value_of o = value_in o.number o.offset o.label
 -- the first value of a list, and the list behind its comma
 unfoldable pub first_value : Shape → List ℕ → Option (Listed × List ℕ)
 first_value shape list =
-    option_and_then (λ found. option_map (λ v. (v, found.1)) (value_of found.0)) (first_operands (patterns shape) [] signs.Plus (tokens list) nothing)
+    option_and_then (λ found. option_map (λ v. (v, found.1)) (value_of found.0))
+    (first_operands (patterns shape) [] signs.Plus (tokens list) nothing)
 
 -- the piece of the numbers of a list; other shapes have none
 abbrev pub number_piece : Shape → Option Piece
@@ -89,7 +94,9 @@ HasLabel list t = HasToken list kinds.Name t
 
 -- the list behind a value: it ends there, or a comma stands there
 abbrev pub IsPast : List ℕ → List ℕ → Type 0
-IsPast behind rest = ((tokens behind ≡ End 0) × (rest ≡ [])) ⊎ (tokens behind ≡ Next (record { kind = kinds.Comma; text = 44 ∷ []; rest = rest }) (tokens rest))
+IsPast behind rest =
+    ((tokens behind ≡ End 0) × (rest ≡ []))
+    ⊎ (tokens behind ≡ Next (record { kind = kinds.Comma; text = 44 ∷ []; rest = rest }) (tokens rest))
 
 -- the first value of a list of values of so many bytes each, and the list behind its comma
 abbrev pub next_of : ℕ → List ℕ → Option (Listed × List ℕ)
@@ -107,7 +114,8 @@ IsWholeList bytes list = (v : Listed) × (vs : List Listed) × AreValuesOf bytes
 -- of a line that goes on behind a list its values were read as operands, and what is left is what stands behind them
 abbrev pub IsReadAsList : ℕ → List ℕ → List ℕ → Type 0
 IsReadAsList bytes list behind =
-    (shape : Shape) × (o : Slots) × (list_shape bytes ≡ Some shape) × (operands (patterns shape) (tokens (list ++ behind)) ≡ Ok o) × (o.left ≡ length behind)
+    (shape : Shape) × (o : Slots) × (list_shape bytes ≡ Some shape)
+    × (operands (patterns shape) (tokens (list ++ behind)) ≡ Ok o) × (o.left ≡ length behind)
 
 -- A value that so many bytes hold: a number without a sign, or one below 0 modulo 2^64; a label where there are 8.
 abbrev pub IsOfSize : ℕ → Listed → Type 0

@@ -1,5 +1,6 @@
 -- Reading operands along the patterns of a shape, a token after the other.
-use Rattle.std.specs.Prelude.{ℕ, List, [], ◌∷◌, ◌++◌, Bool, true, false, Option, None, Some, Result, Ok, Err, ◌||◌, if◌then◌else◌}
+use Rattle.std.specs.Prelude.{ℕ, List, [], ◌∷◌, ◌++◌, Bool, true, false, Option, None, Some, Result, Ok, Err, ◌||◌}
+use Rattle.std.specs.Prelude.{if◌then◌else◌}
 use Rattle.std.specs.Option.{is_some, option_or}
 use Rattle.alpha_token.specs.declared.token.TokenKind.{TokenKind}
 use Rattle.alpha_token.specs.declared.token.TokenKind.TheVariants as kinds
@@ -73,7 +74,8 @@ go_on left (Err kind) more = fault left kind
 go_on left (Ok o) more = more o
 
 -- on behind a token, where a pattern goes on with it
-abbrev pub taken : Lexeme → Sign → Slots → Option Piece → (Piece → Slots → Result Slots OperandFault) → Result Slots OperandFault
+abbrev pub taken : Lexeme → Sign → Slots → Option Piece → (Piece → Slots → Result Slots OperandFault)
+    → Result Slots OperandFault
 taken t sign o None more = fault (left_of t) (stuck_at t)
 taken t sign o (Some p) more = go_on (left_of t) (filled p t sign o) (more p)
 
@@ -82,7 +84,8 @@ abbrev pub follow : List Pattern → Pattern → Sign → Tokens → Slots → R
 follow all front sign (End left) o = if is_whole all front then Ok o else fault left BadOperands
 follow all front sign (Bad left) o = fault left BadToken
 follow all front sign (Next t ts) o =
-    taken t sign o (piece_behind all front t.kind) (λ p filled. follow all (front_after front p) (sign_after p) ts filled)
+    taken t sign o (piece_behind all front t.kind)
+    (λ p filled. follow all (front_after front p) (sign_after p) ts filled)
 
 -- the operands of all the tokens
 unfoldable pub operands : List Pattern → Tokens → Result Slots OperandFault

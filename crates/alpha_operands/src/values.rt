@@ -6,7 +6,9 @@ ghost use Rattle.alpha_operands.specs.declared.shape.Shape.TheVariants as shapes
 ghost use Rattle.alpha_operands.specs.Shapes.{patterns};
 ghost use Rattle.alpha_operands.specs.Operands.{slots};
 ghost use Rattle.alpha_operands.specs.Reached.{front_of, IsReached};
-ghost use Rattle.alpha_operands.specs.Values.{view, list_shape, first_operands, value_of, first_value, next_of, IsOfSize, number as value, label, number_piece, HasNumber, HasLabel, IsPast};
+ghost use Rattle.alpha_operands.specs.Values.{view, list_shape, first_operands, value_of, first_value, next_of};
+ghost use Rattle.alpha_operands.specs.Values.{IsOfSize, number as value, label, number_piece, HasNumber, HasLabel};
+ghost use Rattle.alpha_operands.specs.Values.{IsPast};
 
 use crate::operands::{NOTHING, fill, number_of};
 use crate::walk::{Reached, sign_after};

@@ -7,7 +7,8 @@ ghost use Rattle.alpha_operands.specs.Ranges.{IsNumber};
 ghost use Rattle.alpha_operands.specs.Operands.{slots, Gives};
 ghost use Rattle.alpha_operands.specs.Grammar.{IsOneOf, fault_at};
 ghost use Rattle.alpha_operands.specs.Reached.{front_of, IsReached, HasBehind};
-ghost use Rattle.alpha_operands.specs.Walk.{rest_of, is_empty, is_whole, head_of_kind, piece_behind, front_after, sign_after, is_unknown, stuck_at, follow, operands};
+ghost use Rattle.alpha_operands.specs.Walk.{rest_of, is_empty, is_whole, head_of_kind, piece_behind, front_after};
+ghost use Rattle.alpha_operands.specs.Walk.{sign_after, is_unknown, stuck_at, follow, operands};
 ghost use Rattle.alpha_operands.specs.declared.operands.LineFaultKind.TheVariants.{BadOperands};
 
 use crate::operands::{NOTHING, fill};

@@ -1,8 +1,8 @@
 pub mod Frames
 pub mod Registers
-pub mod Takings
-pub mod Serving
+pub mod InputTaken
+pub mod SystemCalls
 pub mod Callsys
-pub mod Asking
-pub mod Calling
+pub mod InputRequests
+pub mod PalCalls
 pub mod LawLemmas

@@ -1,10 +1,11 @@
 -- What the code of a call did, against the definition of the call, where devices may tell nothing.
-use Rattle.std.specs.Prelude.{◌≡◌, ⊤, ℕ, ◌<◌, ◌≤◌, true, IsTrue, List, ◌++◌, length, take, drop, Option, Some, None, Result, Ok, Err}
+use Rattle.std.specs.Prelude.{◌≡◌, ⊤, ℕ, ◌<◌, ◌≤◌, true, IsTrue, List, ◌++◌, length, take, drop, Option, Some, None}
+use Rattle.std.specs.Prelude.{Result, Ok, Err}
 use Rattle.std.specs.Io.KnownBytes.{Appends}
 use Rattle.alpha_words.specs.declared.PalCall.{PalCall}
 use Rattle.alpha_words.specs.declared.PalCall.TheVariants.{Callsys}
 use Rattle.alpha_words.specs.Regs.{reg}
-use Rattle.alpha_io.specs.Faults.{Rose}
+use Rattle.alpha_io.specs.Faults.{Faulted}
 use Rattle.alpha_io.specs.History.{Reply, IsRead, FailsToRead}
 use Rattle.alpha_io.specs.Supply.{Supply}
 use Rattle.alpha_io.specs.Written.{WritesPrefix}
@@ -21,9 +22,10 @@ use Rattle.alpha_pal.specs.declared.pal_end.PalEnd.TheVariants.{Goes, Exit, Sign
 use Rattle.alpha_pal.specs.declared.pal_end.Passed.{Passed}
 use Rattle.alpha_pal.specs.declared.pal_end.Passed.TheVariants.{Nothing, Took, Put}
 use Rattle.alpha_pal.specs.Kernel.{KernelState, call_frame}
-use Rattle.alpha_pal.specs.Call.{Traffic, Silent, asked_in, given_in, put_in, goes, exits, signals, call}
+use Rattle.alpha_pal.specs.Call.{Traffic, Silent, asked_in, given_in, put_in, continues, exits, signals, call}
 use Rattle.alpha_pal.specs.Call as traffics
-use Rattle.alpha_pal.specs.Serve.{read_call, write_call, input_descriptor, output_descriptor, served, serve, system_call_of, answered}
+use Rattle.alpha_pal.specs.Serve.{read_call, write_call, input_descriptor, output_descriptor, served, serve}
+use Rattle.alpha_pal.specs.Serve.{system_call_of, answered}
 use Rattle.alpha_pal.specs.Passed.{IsPassed}
 
 -- where the input was told, it was `taken` and then `rest`, and `rest` is left
@@ -55,8 +57,8 @@ passed_by r (Wrote n) = Put r.a1 n
 passed_by r (Error n) = Nothing
 passed_by r (Exits v) = Nothing
 
--- The answer and the memory are those of the definition, where what was given is there to be read. What passed went through
--- the devices, and stands in memory.
+-- The answer and the memory are those of the definition, where what was given is there to be read. What passed went
+-- through the devices, and stands in memory.
 pub record Serves
     (r : SystemCall) (answer : Answer) (mem mem' : List Block)
     (supply supply' : Supply) (written written' : Option (List ℕ)) : Type 0 where
@@ -90,13 +92,19 @@ pub record PutsPart (r : SystemCall) (mem : List Block) (written written' : Opti
 -- a system call's effect on memory, input and output, by its result
 abbrev pub ServeEffect : SystemCall → Result Answer Fault → List Block → List Block
     → Supply → Supply → Option (List ℕ) → Option (List ℕ) → Type 0
-ServeEffect r (Ok (Read n)) mem mem' supply supply' written written' = Serves r (Read n) mem mem' supply supply' written written'
-ServeEffect r (Ok (Wrote n)) mem mem' supply supply' written written' = Serves r (Wrote n) mem mem' supply supply' written written'
-ServeEffect r (Ok (Error n)) mem mem' supply supply' written written' = Serves r (Error n) mem mem' supply supply' written written'
+ServeEffect r (Ok (Read n)) mem mem' supply supply' written written' =
+    Serves r (Read n) mem mem' supply supply' written written'
+ServeEffect r (Ok (Wrote n)) mem mem' supply supply' written written' =
+    Serves r (Wrote n) mem mem' supply supply' written written'
+ServeEffect r (Ok (Error n)) mem mem' supply supply' written written' =
+    Serves r (Error n) mem mem' supply supply' written written'
 ServeEffect r (Ok (Exits v)) mem mem' supply supply' written written' =
-    ((input : List ℕ) → serve r mem input ≡ served (Exits v) mem Silent) × (mem' ≡ mem) × (supply' ≡ supply) × (written' ≡ written)
-ServeEffect r (Err Input) mem mem' supply supply' written written' = TakesPart r mem mem' supply supply' × (written' ≡ written)
-ServeEffect r (Err Output) mem mem' supply supply' written written' = PutsPart r mem written written' × (mem' ≡ mem) × (supply' ≡ supply)
+    ((input : List ℕ) → serve r mem input ≡ served (Exits v) mem Silent) × (mem' ≡ mem) × (supply' ≡ supply)
+    × (written' ≡ written)
+ServeEffect r (Err Input) mem mem' supply supply' written written' =
+    TakesPart r mem mem' supply supply' × (written' ≡ written)
+ServeEffect r (Err Output) mem mem' supply supply' written written' =
+    PutsPart r mem written written' × (mem' ≡ mem) × (supply' ≡ supply)
 ServeEffect r (Err Notes) mem mem' supply supply' written written' = ⊥
 
 -- how a call ends, by a system call's result
@@ -113,37 +121,40 @@ regs_after (Ok answer) regs = answered answer regs
 regs_after (Err fault) regs = regs
 
 -- what a call sees: registers, memory, the unique value, and what the devices tell
-pub record Seen : Type 0 where
+pub record CallView : Type 0 where
   pub regs : List ℕ
   pub mem : List Block
   pub unique : ℕ
   pub supply : Supply
   pub written : Option (List ℕ)
 
-abbrev pub seen : List ℕ → List Block → ℕ → Supply → Option (List ℕ) → Seen
-seen regs mem unique supply written = record { regs = regs; mem = mem; unique = unique; supply = supply; written = written }
+abbrev pub seen : List ℕ → List Block → ℕ → Supply → Option (List ℕ) → CallView
+seen regs mem unique supply written =
+    record { regs = regs; mem = mem; unique = unique; supply = supply; written = written }
 
--- Registers, memory and unique value are those of the definition, where what was given is there to be read. What passed went
--- through the devices, and stands in memory where the call says so.
-pub record GoesOn (function : PalCall) (passed : Passed) (old new : Seen) : Type 0 where
+-- Registers, memory and unique value are those of the definition, where what was given is there to be read. What passed
+-- went through the devices, and stands in memory where the call says so.
+pub record CallReturns (function : PalCall) (passed : Passed) (old new : CallView) : Type 0 where
   pub traffic : Traffic
-  pub is : call function old.regs old.mem old.unique (given_in traffic) ≡ goes new.regs new.mem new.unique traffic
+  pub is : call function old.regs old.mem old.unique (given_in traffic) ≡ continues new.regs new.mem new.unique traffic
   pub fed : Reads old.supply traffic new.supply
   pub wrote : Appends old.written new.written (put_in traffic)
   pub passes : IsPassed passed new.mem (given_in traffic) (put_in traffic)
 
 -- the same where the input is told: all of it is there to be read
-pub record GoesOnTold (function : PalCall) (old new : Seen) (left : List ℕ) : Type 0 where
+pub record CallReturnsTold (function : PalCall) (old new : CallView) (left : List ℕ) : Type 0 where
   pub traffic : Traffic
-  pub is : call function old.regs old.mem old.unique left ≡ goes new.regs new.mem new.unique traffic
+  pub is : call function old.regs old.mem old.unique left ≡ continues new.regs new.mem new.unique traffic
   pub took : new.supply.left ≡ Some (drop (length (given_in traffic)) left)
   pub wrote : Appends old.written new.written (put_in traffic)
 
 -- a call's effect, by its end
-abbrev pub CallEffect : PalCall → Result PalEnd Fault → Seen → Seen → Type 0
-CallEffect function (Ok (Goes passed)) old new = GoesOn function passed old new
-CallEffect function (Ok (Exit v)) old new = ((input : List ℕ) → call function old.regs old.mem old.unique input ≡ exits v) × (new ≡ old)
-CallEffect function (Ok (Signal code)) old new = ((input : List ℕ) → call function old.regs old.mem old.unique input ≡ signals code) × (new ≡ old)
+abbrev pub CallEffect : PalCall → Result PalEnd Fault → CallView → CallView → Type 0
+CallEffect function (Ok (Goes passed)) old new = CallReturns function passed old new
+CallEffect function (Ok (Exit v)) old new =
+    ((input : List ℕ) → call function old.regs old.mem old.unique input ≡ exits v) × (new ≡ old)
+CallEffect function (Ok (Signal code)) old new =
+    ((input : List ℕ) → call function old.regs old.mem old.unique input ≡ signals code) × (new ≡ old)
 CallEffect function (Err Input) old new =
     (function ≡ Callsys)
     × TakesPart (system_call_of old.regs) old.mem new.mem old.supply new.supply
@@ -157,7 +168,7 @@ CallEffect function (Err Notes) old new = ⊥
 -- the input's count of faults rose exactly where the input failed
 abbrev pub InputCause : {A : Type 0} → Result A Fault → ℕ → ℕ → Type 0
 InputCause (Ok answer) before now = now ≡ before
-InputCause (Err Input) before now = (before ≤ now) × Rose before now
+InputCause (Err Input) before now = (before ≤ now) × Faulted before now
 InputCause (Err Output) before now = now ≡ before
 InputCause (Err Notes) before now = now ≡ before
 
@@ -165,7 +176,7 @@ InputCause (Err Notes) before now = now ≡ before
 abbrev pub SinkCause : {A : Type 0} → Result A Fault → ℕ → ℕ → Type 0
 SinkCause (Ok answer) before now = now ≡ before
 SinkCause (Err Input) before now = now ≡ before
-SinkCause (Err Output) before now = (before ≤ now) × Rose before now
+SinkCause (Err Output) before now = (before ≤ now) × Faulted before now
 SinkCause (Err Notes) before now = now ≡ before
 
 -- the kernel after a call: a system call leaves its frame and the stack pointer that it saved

@@ -6,7 +6,8 @@ use Rattle.alpha_pal.specs.declared.frame.Frame.{Frame}
 -- the bytes of a frame, in this order
 unfoldable pub bytes_of : Frame → List ℕ
 bytes_of f =
-    low_bytes 8 f.ps ++ low_bytes 8 f.pc ++ low_bytes 8 f.gp ++ low_bytes 8 f.r16 ++ low_bytes 8 f.r17 ++ low_bytes 8 f.r18
+    low_bytes 8 f.ps ++ low_bytes 8 f.pc ++ low_bytes 8 f.gp ++ low_bytes 8 f.r16 ++ low_bytes 8 f.r17
+    ++ low_bytes 8 f.r18
 
 -- the frame that these bytes hold
 unfoldable pub frame_of : List ℕ → Frame

@@ -1,5 +1,5 @@
--- A system call as the code makes it, in three parts: what the registers ask for, what is answered, and how that stands in
--- the registers. `laws_of_calls` says that together they are the call.
+-- A system call as the code makes it, in three parts: what the registers ask for, what is answered, and how that stands
+-- in the registers. `laws_of_calls` says that together they are the call.
 use Rattle.std.specs.Prelude.{ℕ, ◌==◌, not, if◌then◌else◌, List, length, take}
 use Rattle.alpha_words.specs.Regs.{reg, put}
 use Rattle.alpha_mem.specs.Intent.{Load, Store}
@@ -8,7 +8,7 @@ use Rattle.alpha_mem.specs.Memory.{bytes_at, write_bytes}
 use Rattle.alpha_pal.specs.declared.serve.SystemCall.{SystemCall}
 use Rattle.alpha_pal.specs.declared.serve.Answer.{Answer}
 use Rattle.alpha_pal.specs.declared.serve.Answer.TheVariants.{Read, Wrote, Error, Exit}
-use Rattle.alpha_pal.specs.Call.{Traffic, Silent, Called, goes, exits}
+use Rattle.alpha_pal.specs.Call.{Traffic, Silent, Called, continues, exits}
 use Rattle.alpha_pal.specs.Call as traffics
 
 -- the system calls, by R0
@@ -52,7 +52,8 @@ abbrev pub serve_read : SystemCall → List Block → List ℕ → Served
 serve_read r mem input =
     if not (r.a0 == input_descriptor) then served (Error bad_descriptor) mem Silent else
     if not (within (shapes mem) Store r.a1 r.a2) then served (Error bad_range) mem Silent else
-    served (Read (length (take r.a2 input))) (write_bytes mem r.a1 (take r.a2 input)) (traffics.Read r.a2 (take r.a2 input))
+    served (Read (length (take r.a2 input))) (write_bytes mem r.a1 (take r.a2 input))
+    (traffics.Read r.a2 (take r.a2 input))
 
 -- write puts bytes of memory to the output
 abbrev pub serve_write : SystemCall → List Block → Served
@@ -82,9 +83,9 @@ answered (Exit v) regs = regs
 
 -- a system call's answer in the registers
 abbrev pub called : Answer → List ℕ → List Block → ℕ → Traffic → Called
-called (Read n) regs mem unique traffic = goes (answered (Read n) regs) mem unique traffic
-called (Wrote n) regs mem unique traffic = goes (answered (Wrote n) regs) mem unique traffic
-called (Error n) regs mem unique traffic = goes (answered (Error n) regs) mem unique traffic
+called (Read n) regs mem unique traffic = continues (answered (Read n) regs) mem unique traffic
+called (Wrote n) regs mem unique traffic = continues (answered (Wrote n) regs) mem unique traffic
+called (Error n) regs mem unique traffic = continues (answered (Error n) regs) mem unique traffic
 called (Exit v) regs mem unique traffic = exits v
 
 abbrev pub after_serve : List ℕ → ℕ → Served → Called

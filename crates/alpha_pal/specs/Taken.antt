@@ -23,7 +23,7 @@ pub record TakesPieces (mem mem' : List Block) (a n : ℕ) (old new : Supply) : 
   pub had : HasTaken mem mem' a n old.left new.left
   pub takes : List Reply
   pub some : All GaveSome takes
-  pub gave : all_given takes ≡ had.taken
+  pub gave_taken : all_given takes ≡ had.taken
   pub calls : new.replies ≡ old.replies ++ takes
 
 -- a read of so many bytes took the first n

@@ -1,7 +1,8 @@
 ghost use Rattle.std.specs.Prelude.{◌≡◌, true, false, IsTrue, IfOk, if◌then◌else◌, length, drop};
 ghost use Rattle.alpha_words.specs.Regs.{reg, put, IsFile};
 ghost use Rattle.alpha_pal.specs.Frame.{bytes_of, frame_of};
-ghost use Rattle.alpha_pal.specs.Kernel.{user_regs, arith_frame, entered, entry_regs, arith_regs, is_saved, saving, new_kernel};
+ghost use Rattle.alpha_pal.specs.Kernel.{user_regs, arith_frame, entered, entry_regs, arith_regs, is_saved, saving};
+ghost use Rattle.alpha_pal.specs.Kernel.{new_kernel};
 
 use crate::frame::{Frame, SIZE};
 use crate::named::{A0, A1, A2, GP, SP, reg};

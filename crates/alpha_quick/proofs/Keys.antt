@@ -1,5 +1,6 @@
 -- A name of eight bytes at most is told by its key.
-use Rattle.std.proofs.Common.{◌≡◌, ◌<◌, ◌≤◌, ◌+◌, ◌*◌, ◌%◌, ◌^◌, ℕ, List, [], ◌∷◌, ◌++◌, length, true, eqb, nat_le, refl, sym, ◌∙◌, ap, arith}
+use Rattle.std.proofs.Common.{◌≡◌, ◌<◌, ◌≤◌, ◌+◌, ◌*◌, ◌%◌, ◌^◌, ℕ, List, [], ◌∷◌, ◌++◌, length, true, eqb, nat_le}
+use Rattle.std.proofs.Common.{refl, sym, ◌∙◌, ap, arith}
 use Prim.Native.Nat.{zero, suc}
 use mathlib.Core.List.{reverse, reverse_aux}
 use Rattle.std.specs.Prelude.{get_or, take}
@@ -30,7 +31,8 @@ byte_bounds : (b : ℕ) → goes_on_name b ≡ true → (0 < b) × (b < 256)
 byte_bounds b h = (grind (arith, nat_tests), grind (arith, nat_tests))
 
 -- nothing is dropped of eight bytes
-fold_plain : (name : List ℕ) (n key : ℕ) → key < limit n → n + length name ≤ 8 → list_all goes_on_name name ≡ true → fold with_byte key name ≡ fold plain key name
+fold_plain : (name : List ℕ) (n key : ℕ) → key < limit n → n + length name ≤ 8 → list_all goes_on_name name ≡ true
+    → fold with_byte key name ≡ fold plain key name
 fold_plain [] n key h room all = refl
 fold_plain (b ∷ bs) n key h room all =
     let (here, more) = and_parts (goes_on_name b) (list_all goes_on_name bs) all in
@@ -51,13 +53,15 @@ fold_number (b ∷ name) bs =
     let same : number bs * 256 + b ≡ b + number bs * 256 = omega arith in
     ap (λ k. fold plain k name) same ∙ fold_number name (b ∷ bs)
 
-all_reversed : (name bs : List ℕ) → list_all goes_on_name name ≡ true → list_all goes_on_name bs ≡ true → list_all goes_on_name (reverse_aux name bs) ≡ true
+all_reversed : (name bs : List ℕ) → list_all goes_on_name name ≡ true → list_all goes_on_name bs ≡ true
+    → list_all goes_on_name (reverse_aux name bs) ≡ true
 all_reversed [] bs h all = all
 all_reversed (b ∷ name) bs h all =
     let (here, more) = and_parts (goes_on_name b) (list_all goes_on_name name) h in
     all_reversed name (b ∷ bs) more (rw (here, all) refl)
 
-one_number : (a b : List ℕ) → list_all goes_on_name a ≡ true → list_all goes_on_name b ≡ true → number a ≡ number b → a ≡ b
+one_number : (a b : List ℕ) → list_all goes_on_name a ≡ true → list_all goes_on_name b ≡ true → number a ≡ number b
+    → a ≡ b
 one_number [] [] f g e = refl
 one_number [] (y ∷ ys) f g e =
     let some : (0 < y) × (y < 256) = byte_bounds y (and_parts (goes_on_name y) (list_all goes_on_name ys) g).0 in
@@ -93,17 +97,25 @@ one_name row name key has (all, is) short =
     sym (reverse-reverse row) ∙ ap reverse r ∙ reverse-reverse name
 
 -- the row at a place has its name's key
-pub named_at : (rows : List KeyedRow) (place : ℕ) (d : KeyedRow) → are_named rows ≡ true → place < length rows → is_named (name_of (get_or rows place d).row) (get_or rows place d).key.0 ≡ true
+pub named_at : (rows : List KeyedRow) (place : ℕ) (d : KeyedRow) → are_named rows ≡ true → place < length rows
+    → is_named (name_of (get_or rows place d).row) (get_or rows place d).key.0 ≡ true
 named_at [] place d all within = absurd (omega arith)
 named_at (r ∷ rs) zero d all within = (and_parts (is_named (name_of r.row) r.key.0) (are_named rs) all).0
-named_at (r ∷ rs) (suc place) d all within = named_at rs place d (and_parts (is_named (name_of r.row) r.key.0) (are_named rs) all).1 (omega arith)
+named_at (r ∷ rs) (suc place) d all within =
+    named_at rs place d (and_parts (is_named (name_of r.row) r.key.0) (are_named rs) all).1 (omega arith)
 
 take_two : (name r : List ℕ) → take (length name + 2) (name ++ (47 ∷ (118 ∷ r))) ≡ name ++ (47 ∷ (118 ∷ []))
 take_two [] r = refl
-take_two (b ∷ name) r = let e : length (b ∷ name) + 2 ≡ suc (length name + 2) = omega arith in rw e (ap (λ l. b ∷ l) (take_two name r))
+take_two (b ∷ name) r =
+    let e : length (b ∷ name) + 2 ≡ suc (length name + 2) = omega arith in
+    rw e (ap (λ l. b ∷ l) (take_two name r))
 
 -- a name with `/v` behind it
-pub trap_keyed : (line name r longer : List ℕ) (key : ℕ) → line ≡ name ++ (47 ∷ (118 ∷ r)) → longer ≡ take (length name + 2) line → IsKeyed name key → IsKeyed longer (with_byte (with_byte key 47) 118)
+pub trap_keyed : (line name r longer : List ℕ) (key : ℕ) → line ≡ name ++ (47 ∷ (118 ∷ r))
+    → longer ≡ take (length name + 2) line → IsKeyed name key → IsKeyed longer (with_byte (with_byte key 47) 118)
 trap_keyed line name r longer key e front (all, is) =
     let same : longer ≡ name ++ (47 ∷ (118 ∷ [])) = front ∙ ap (λ l. take (length name + 2) l) e ∙ take_two name r in
-    rw same (list_all-append goes_on_name name (47 ∷ (118 ∷ [])) ∙ rw all refl, ap (λ k. with_byte (with_byte k 47) 118) is ∙ sym (fold-append with_byte 0 name (47 ∷ (118 ∷ []))))
+    rw same (
+      list_all-append goes_on_name name (47 ∷ (118 ∷ [])) ∙ rw all refl,
+      ap (λ k. with_byte (with_byte k 47) 118) is ∙ sym (fold-append with_byte 0 name (47 ∷ (118 ∷ []))),
+    )

@@ -1,5 +1,5 @@
 mod Directives
 mod Joined
 mod Keys
-mod Meanings
+mod LexemeMeanings
 mod Parts

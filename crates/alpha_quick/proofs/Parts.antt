@@ -1,5 +1,6 @@
 -- A line says what its parts say.
-use Rattle.std.proofs.Common.{◌≡◌, ℕ, List, [], ◌∷◌, ◌++◌, true, false, eqb, Option, None, Some, is_some, Ok, refl, sym, ◌∙◌, ap, arith}
+use Rattle.std.proofs.Common.{◌≡◌, ℕ, List, [], ◌∷◌, ◌++◌, true, false, eqb, Option, None, Some, is_some, Ok, refl, sym}
+use Rattle.std.proofs.Common.{◌∙◌, ap, arith}
 use Rattle.std.specs.List.{list_all}
 use Rattle.std.specs.Option.{option_map}
 use Rattle.std.proofs.lemmas.Bool.Decides.{nat_tests}
@@ -8,14 +9,14 @@ use Rattle.alpha_token.specs.declared.token.TokenKind.TheVariants as kinds
 use Rattle.alpha_token.specs.Bytes.{begins_label, goes_on_label, is_label, begins_name, goes_on_name}
 use Rattle.alpha_token.specs.Tokens.{Next, tokens}
 use Rattle.alpha_text.specs.Heads.{head_name}
-use Rattle.alpha_text.specs.Statements.{Said}
-use Rattle.alpha_text.specs.Behind.{Stops}
+use Rattle.alpha_text.specs.Statements.{Stmt}
+use Rattle.alpha_text.specs.SuffixWords.{BeginsWithout}
 use Rattle.alpha_text.specs.Reading.{statement_of, line_of}
-use Rattle.alpha_text.proofs.Behind.{statement_says, line_says}
-use Rattle.alpha_text.proofs.Spelling.{token-begun}
+use Rattle.alpha_text.proofs.SuffixReading.{statement_says, line_says}
+use Rattle.alpha_text.proofs.CanonicalTokens.{token-begun}
 use Rattle.alpha_quick.specs.Parts.{SaysNamed}
-use Rattle.alpha_quick.specs.Lead.{HasStatement}
-use Rattle.alpha_quick.specs.Rest.{IsBehind}
+use Rattle.alpha_quick.specs.InsnPrefix.{HasStatement}
+use Rattle.alpha_quick.specs.Unparsed.{IsAfterLabel}
 
 -- what goes on a label goes on a name
 pub label_goes_on : (s : List ℕ) → list_all goes_on_label s ≡ true → list_all goes_on_name s ≡ true
@@ -28,7 +29,8 @@ letter_begins : (b : ℕ) → begins_label b ≡ true → (begins_name b ≡ tru
 letter_begins b h = (rw h refl, grind (arith, nat_tests))
 
 -- a label before what ends it
-pub label_tokens : (label s : List ℕ) → is_label label ≡ true → Stops goes_on_name s → tokens (label ++ s) ≡ Next (record { kind = kinds.Name; text = label; rest = s }) (tokens s)
+pub label_tokens : (label s : List ℕ) → is_label label ≡ true → BeginsWithout goes_on_name s
+    → tokens (label ++ s) ≡ Next (record { kind = kinds.Name; text = label; rest = s }) (tokens s)
 label_tokens [] s h stop = cc
 label_tokens (b ∷ ds) s h stop =
     let (first, others) = and_parts (begins_label b) (list_all goes_on_label ds) h in
@@ -36,21 +38,28 @@ label_tokens (b ∷ ds) s h stop =
     token-begun b ds s begins plain (label_goes_on ds others) stop
 
 -- a line that begins with a label
-label_says : (label rest : List ℕ) (s : Said) → is_label label ≡ true → statement_of (tokens rest) ≡ Ok s → line_of (tokens (label ++ (58 ∷ rest))) ≡ Ok (record { label = Some label; statement = s })
+label_says : (label rest : List ℕ) (s : Stmt) → is_label label ≡ true → statement_of (tokens rest) ≡ Ok s
+    → line_of (tokens (label ++ (58 ∷ rest))) ≡ Ok (record { label = Some label; statement = s })
 label_says label rest s is h = rw (label_tokens label (58 ∷ rest) is refl, is, h) refl
 
 -- a line has the statement that stands behind its label
-pub behind_says : (line text : List ℕ) (label : Option (List ℕ)) (s : Said) → IsBehind line label text → HasStatement text s → line_of (tokens line) ≡ Ok (record { label = label; statement = s })
-behind_says line text None s same has = ap line_of same ∙ has.1
-behind_says line text (Some label) s (rest, is, same, behind) has = ap line_of same ∙ label_says label rest s is (ap statement_of behind ∙ has.0)
+pub IsAfterLabel-says : (line text : List ℕ) (label : Option (List ℕ)) (s : Stmt) → IsAfterLabel line label text
+    → HasStatement text s → line_of (tokens line) ≡ Ok (record { label = label; statement = s })
+IsAfterLabel-says line text None s same has = ap line_of same ∙ has.1
+IsAfterLabel-says line text (Some label) s (rest, is, same, after) has =
+    ap line_of same ∙ label_says label rest s is (ap statement_of after ∙ has.0)
 
 -- a line without a label
-pub bare_line : {A : Type 0} (now : A → List ℕ) (line text : List ℕ) (label : Option A) → is_some label ≡ false → IsBehind line (option_map now label) text → tokens line ≡ tokens text
+pub bare_line : {A : Type 0} (now : A → List ℕ) (line text : List ℕ) (label : Option A) → is_some label ≡ false
+    → IsAfterLabel line (option_map now label) text → tokens line ≡ tokens text
 bare_line now line text None bare h = h
 bare_line now line text (Some label) bare h = absurd cc
 
 -- a line that begins with a name of the tables
-pub named_line : (line name behind : List ℕ) (s : Said) → tokens line ≡ tokens (name ++ behind) → SaysNamed name behind s → HasStatement line s
-named_line line name behind s e (head, is, apart, says) =
-    let same : tokens line ≡ tokens (head_name head ++ behind) = e ∙ ap (λ n. tokens (n ++ behind)) (sym is) in
-    (ap statement_of same ∙ statement_says head behind s apart says, ap line_of same ∙ line_says head behind s apart says)
+pub line_of-named : (line name after : List ℕ) (s : Stmt) → tokens line ≡ tokens (name ++ after)
+    → SaysNamed name after s → HasStatement line s
+line_of-named line name after s e (head, is, apart, says) =
+    let same : tokens line ≡ tokens (head_name head ++ after) = e ∙ ap (λ n. tokens (n ++ after)) (sym is) in (
+      ap statement_of same ∙ statement_says head after s apart says,
+      ap line_of same ∙ line_says head after s apart says,
+    )

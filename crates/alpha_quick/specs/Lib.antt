@@ -1,5 +1,5 @@
-pub mod Lead
-pub mod Rest
+pub mod InsnPrefix
+pub mod Unparsed
 pub mod Keys
 pub mod Listed
 pub mod Parts

@@ -12,24 +12,26 @@ use Rattle.alpha_operands.specs.Shapes.{patterns}
 use Rattle.alpha_operands.specs.Operands.{Slots}
 use Rattle.alpha_operands.specs.Walk.{operands}
 use Rattle.alpha_text.specs.declared.head.Head.{Head}
-use Rattle.alpha_text.specs.declared.head.Own.{Own}
-use Rattle.alpha_text.specs.declared.head.Own.TheVariants as owns
-use Rattle.alpha_text.specs.Heads.{head_name, own_shape}
-use Rattle.alpha_text.specs.Statements.{Said, code, pseudo_form}
-use Rattle.alpha_text.specs.Behind.{IsApart, SaysBy}
-use Rattle.alpha_text.specs.Reading.{LineSaid}
+use Rattle.alpha_text.specs.declared.head.PseudoOp.{PseudoOp}
+use Rattle.alpha_text.specs.declared.head.PseudoOp.TheVariants as owns
+use Rattle.alpha_text.specs.Heads.{head_name, pseudo_op_shape}
+use Rattle.alpha_text.specs.Statements.{Stmt, code, pseudo_form}
+use Rattle.alpha_text.specs.SuffixWords.{IsApart, SaysBy}
+use Rattle.alpha_text.specs.Reading.{LineStmt}
 
 -- the instruction that a pseudo-operation stands for with the operands behind it
-abbrev pub StandsFor : Own → List ℕ → Form → Type 0
-StandsFor own behind i = (o : Slots) × (operands (patterns (own_shape own)) (tokens behind) ≡ Ok o) × (pseudo_form own o ≡ Some i)
+abbrev pub StandsFor : PseudoOp → List ℕ → Form → Type 0
+StandsFor pseudo_op behind i =
+    (o : Slots) × (operands (patterns (pseudo_op_shape pseudo_op)) (tokens behind) ≡ Ok o)
+    × (pseudo_form pseudo_op o ≡ Some i)
 
 -- how many bytes a value of a directive has, and the piece of its numbers
-abbrev pub values_of : Own → Option (ℕ × Piece)
+abbrev pub values_of : PseudoOp → Option (ℕ × Piece)
 values_of owns.Byte = Some (1, pieces.Byte)
 values_of owns.Word = Some (2, pieces.Word)
 values_of owns.Long = Some (4, pieces.Long)
 values_of owns.Quad = Some (8, pieces.Quad)
-values_of own = None
+values_of pseudo_op = None
 
 -- an instruction that is its name alone
 abbrev pub IsAlone : Mnemonic → Form → Type 0
@@ -38,11 +40,11 @@ IsAlone (mnemonics.Pal call) i = i ≡ Pal call
 IsAlone m i = ⊥
 
 -- the same behind a name, where the name ends there
-abbrev pub SaysNamed : List ℕ → List ℕ → Said → Type 0
+abbrev pub SaysNamed : List ℕ → List ℕ → Stmt → Type 0
 SaysNamed name behind s = (head : Head) × (head_name head ≡ name) × IsApart behind × SaysBy head behind s
 
 -- an instruction without a label
-abbrev pub unlabelled : Form → LineSaid
+abbrev pub unlabelled : Form → LineStmt
 unlabelled insn = record { label = None; statement = code insn }
 
 abbrev pub class_of : ℕ → ℕ

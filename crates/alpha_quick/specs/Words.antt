@@ -27,7 +27,8 @@ HasMark line kind rest = (text : List ℕ) × HasToken line kind text rest
 -- a comma, and behind it and any blanks this
 abbrev pub HasComma : List ℕ → List ℕ → Type 0
 HasComma line rest =
-    (text : List ℕ) × (behind : List ℕ) × (tokens line ≡ Next (record { kind = kinds.Comma; text = text; rest = behind }) (tokens rest))
+    (text : List ℕ) × (after : List ℕ)
+    × (tokens line ≡ Next (record { kind = kinds.Comma; text = text; rest = after }) (tokens rest))
 
 abbrev pub HasRegister : List ℕ → ℕ → List ℕ → Type 0
 HasRegister line r rest = (text : List ℕ) × (register_of text ≡ Some r) × HasToken line kinds.Register text rest
@@ -41,7 +42,8 @@ HasLabel line label rest = (is_label label ≡ true) × HasToken line kinds.Name
 -- half of an address, and a parenthesis
 abbrev pub HasOpened : List ℕ → Half → List ℕ → Type 0
 HasOpened line half rest =
-    (text : List ℕ) × (paren : List ℕ) × (operator_of text ≡ Some half) × HasToken line kinds.Operator text paren × HasMark paren kinds.Open rest
+    (text : List ℕ) × (paren : List ℕ) × (operator_of text ≡ Some half) × HasToken line kinds.Operator text paren
+    × HasMark paren kinds.Open rest
 
 -- the line ends here, or its comment begins
 abbrev pub HasEnd : List ℕ → Type 0
@@ -58,12 +60,13 @@ HasValue piece line v rest = (sign : Sign) × (n : ℕ) × HasSigned line sign n
 
 -- a register and a comma
 abbrev pub HasFirst : List ℕ → ℕ → List ℕ → Type 0
-HasFirst line r rest = (behind : List ℕ) × HasRegister line r behind × HasComma behind rest
+HasFirst line r rest = (after : List ℕ) × HasRegister line r after × HasComma after rest
 
 -- a register between parentheses
 abbrev pub HasBase : List ℕ → ℕ → List ℕ → Type 0
 HasBase line r rest =
-    (inner : List ℕ) × (close : List ℕ) × HasMark line kinds.Open inner × HasRegister inner r close × HasMark close kinds.Close rest
+    (inner : List ℕ) × (close : List ℕ) × HasMark line kinds.Open inner × HasRegister inner r close
+    × HasMark close kinds.Close rest
 
 -- the mark of a sign
 abbrev pub mark_of : Sign → TokenKind
@@ -78,12 +81,14 @@ HasOffset sign digits offset rest = (n : ℕ) × HasNumber digits n rest × (off
 abbrev pub HasExpr : List ℕ → List ℕ → ℤ → List ℕ → Type 0
 HasExpr line label offset rest =
     (HasLabel line label rest × (offset ≡ pos 0))
-    ⊎ ((sign : Sign) × (behind : List ℕ) × (digits : List ℕ) × HasLabel line label behind × HasMark behind (mark_of sign) digits × HasOffset sign digits offset rest)
+    ⊎ ((sign : Sign) × (after : List ℕ) × (digits : List ℕ) × HasLabel line label after
+    × HasMark after (mark_of sign) digits × HasOffset sign digits offset rest)
 
 -- half of the address of a label
 abbrev pub HasAddress : List ℕ → Half → List ℕ → ℤ → List ℕ → Type 0
 HasAddress line half label offset rest =
-    (inner : List ℕ) × (close : List ℕ) × HasOpened line half inner × HasExpr inner label offset close × HasMark close kinds.Close rest
+    (inner : List ℕ) × (close : List ℕ) × HasOpened line half inner × HasExpr inner label offset close
+    × HasMark close kinds.Close rest
 
 -- a base, to the end
 abbrev pub HasLastBase : List ℕ → ℕ → Type 0
@@ -96,18 +101,21 @@ HasTail line r = HasLastBase line r ⊎ ((r ≡ 31) × HasEnd line)
 -- the displacement in words of a distance with this sign, to the end
 abbrev pub HasWords : Sign → List ℕ → ℤ → Type 0
 HasWords sign digits words =
-    (n : ℕ) × (rest : List ℕ) × HasNumber digits n rest × HasEnd rest × (number_of pieces.Distance sign n ≡ Some (numbers.Words words))
+    (n : ℕ) × (rest : List ℕ) × HasNumber digits n rest × HasEnd rest
+    × (number_of pieces.Distance sign n ≡ Some (numbers.Words words))
 
 -- the same of a distance from this instruction
 abbrev pub HasDistance : List ℕ → ℤ → Type 0
 HasDistance line words =
-    (sign : Sign) × (behind : List ℕ) × (digits : List ℕ) × HasMark line kinds.Dot behind × HasMark behind (mark_of sign) digits × HasWords sign digits words
+    (sign : Sign) × (after : List ℕ) × (digits : List ℕ) × HasMark line kinds.Dot after
+    × HasMark after (mark_of sign) digits × HasWords sign digits words
 
 -- a register or a literal, and a comma
 abbrev pub HasSource : List ℕ → Src → List ℕ → Type 0
 HasSource line (Reg r) rest = HasFirst line r rest
 HasSource line (Lit v) rest =
-    (n : ℕ) × (behind : List ℕ) × (number_of pieces.Literal Plus n ≡ Some (numbers.Literal v)) × HasNumber line n behind × HasComma behind rest
+    (n : ℕ) × (after : List ℕ) × (number_of pieces.Literal Plus n ≡ Some (numbers.Literal v)) × HasNumber line n after
+    × HasComma after rest
 
 -- a register, to the end
 abbrev pub HasLast : List ℕ → ℕ → Type 0
@@ -115,20 +123,21 @@ HasLast line r = (rest : List ℕ) × HasRegister line r rest × HasEnd rest
 
 -- a register and the destination, to the end
 abbrev pub HasPair : List ℕ → ℕ → ℕ → Type 0
-HasPair line rb rc = (behind : List ℕ) × HasFirst line rb behind × HasLast behind rc
+HasPair line rb rc = (after : List ℕ) × HasFirst line rb after × HasLast after rc
 
 -- a source and the destination, to the end
 abbrev pub HasUnary : List ℕ → Src → ℕ → Type 0
-HasUnary line src rc = (behind : List ℕ) × HasSource line src behind × HasLast behind rc
+HasUnary line src rc = (after : List ℕ) × HasSource line src after × HasLast after rc
 
 -- two sources and the destination, to the end
 abbrev pub HasBinary : List ℕ → ℕ → Src → ℕ → Type 0
-HasBinary line ra src rc = (behind : List ℕ) × HasFirst line ra behind × HasUnary behind src rc
+HasBinary line ra src rc = (after : List ℕ) × HasFirst line ra after × HasUnary after src rc
 
 -- the hint of a jump behind a comma, to the end
 abbrev pub HasWrittenHint : List ℕ → ℕ → Type 0
 HasWrittenHint line hint =
-    (n : ℕ) × (digits : List ℕ) × (rest : List ℕ) × HasComma line digits × HasNumber digits n rest × (number_of pieces.Hint Plus n ≡ Some (numbers.Hint hint)) × HasEnd rest
+    (n : ℕ) × (digits : List ℕ) × (rest : List ℕ) × HasComma line digits × HasNumber digits n rest
+    × (number_of pieces.Hint Plus n ≡ Some (numbers.Hint hint)) × HasEnd rest
 
 -- such a hint, or none
 abbrev pub HasHint : List ℕ → ℕ → Type 0
@@ -136,7 +145,8 @@ HasHint line hint = HasWrittenHint line hint ⊎ ((hint ≡ 0) × HasEnd line)
 
 -- the registers of a jump and its hint, to the end
 abbrev pub HasJump : List ℕ → ℕ → ℕ → ℕ → Type 0
-HasJump line ra rb hint = (inner : List ℕ) × (behind : List ℕ) × HasFirst line ra inner × HasBase inner rb behind × HasHint behind hint
+HasJump line ra rb hint =
+    (inner : List ℕ) × (after : List ℕ) × HasFirst line ra inner × HasBase inner rb after × HasHint after hint
 
 -- a label with its offset, to the end
 abbrev pub HasTarget : List ℕ → List ℕ → ℤ → Type 0

@@ -4,26 +4,27 @@ ghost use Rattle.std.specs.Prelude.{◌≡◌, List, ℕ, IfSome, true, false};
 ghost use Rattle.alpha_table.specs.Op.{op_row};
 ghost use Rattle.alpha_table.specs.declared.names.Mnemonic.TheVariants as mnemonics;
 ghost use Rattle.alpha_table.specs.declared.op.OperandRule.TheVariants as rules;
-ghost use Rattle.alpha_text.specs.declared.head.Own.TheVariants as owns;
+ghost use Rattle.alpha_text.specs.declared.head.PseudoOp.TheVariants as owns;
 ghost use Rattle.alpha_text.specs.Statements.{code};
-ghost use Rattle.alpha_text.specs.Behind.{Says};
+ghost use Rattle.alpha_text.specs.SuffixWords.{Says};
 ghost use Rattle.alpha_quick.specs.Parts.{StandsFor, IsAlone};
-ghost use Rattle.alpha_quick.specs.Lead.{Leads};
+ghost use Rattle.alpha_quick.specs.InsnPrefix.{PrefixSays};
 ghost use Rattle.alpha_quick.specs.Words.{HasFirst};
 
 use crate::groups::{binary, distance, first, jump, last, last_base, pair, tail, unary};
-use crate::words::{comma, is_end, number, signed};
+use crate::words::{comma, is_end, number, signed_number};
 use alpha_operands::{Number, Piece, Sign, number_at};
 use alpha_table::{BranchOp, Form, Insn, JumpKind, MemOp, Mnemonic, Op, OperandRule, Src};
 use alpha_text::{
-    Own, RETURN_HINT, cleared, link, move_number, of_no_source, of_zero, operation, return_register,
+    PseudoOp, RETURN_HINT, clear_insn, link, move_number, of_no_source, of_zero, operation,
+    return_register,
 };
 use alpha_words::Reg;
 
 /// An instruction that a name gives with the words behind it, or with their front: then what is left of them names
 /// the label that it is to reach, and it has displacement 0.
 #[derive(Clone, Copy)]
-pub(crate) struct Lead<'a> {
+pub(crate) struct InsnPrefix<'a> {
     pub insn: Insn,
     /// Whether it is to reach a label.
     pub reaches: bool,
@@ -31,14 +32,14 @@ pub(crate) struct Lead<'a> {
     pub left: &'a [u8],
 }
 
-impl<'a> Lead<'a> {
+impl<'a> InsnPrefix<'a> {
     // An instruction that reaches no label.
     #[inline(always)]
-    pub(crate) fn whole(insn: Insn, end: &'a [u8]) -> Lead<'a>
+    pub(crate) fn whole(insn: Insn, end: &'a [u8]) -> InsnPrefix<'a>
         ensures insn { result.insn ≡ insn }
         ensures whole { result.reaches ≡ false }
     {
-        Lead {
+        InsnPrefix {
             insn,
             reaches: false,
             left: end,
@@ -47,12 +48,12 @@ impl<'a> Lead<'a> {
 
     // An instruction that is to reach the label of these words.
     #[inline(always)]
-    fn to(insn: Insn, left: &'a [u8]) -> Lead<'a>
+    fn to(insn: Insn, left: &'a [u8]) -> InsnPrefix<'a>
         ensures insn { result.insn ≡ insn }
         ensures reaches { result.reaches ≡ true }
         ensures left { result.left.now ≡ left.now }
     {
-        Lead {
+        InsnPrefix {
             insn,
             reaches: true,
             left,
@@ -62,11 +63,11 @@ impl<'a> Lead<'a> {
 
 // A memory instruction with a number, behind its register and a comma.
 #[inline(always)]
-fn displaced(op: MemOp, ra: Reg, words: &[u8]) -> Option<Insn>
+fn access_by_displacement(op: MemOp, ra: Reg, words: &[u8]) -> Option<Insn>
     ensures { IfSome result (λ i. (line : List ℕ) → HasFirst line ra words.now
         → Says (mnemonics.Mem op) line (code i)) }
 {
-    let (sign, n, rest) = signed(words)?;
+    let (sign, n, rest) = signed_number(words)?;
     let Some(Number::Displacement(disp)) = number_at(Piece::Displacement, sign, n) else {
         return None;
     };
@@ -76,7 +77,7 @@ fn displaced(op: MemOp, ra: Reg, words: &[u8]) -> Option<Insn>
 
 // A memory instruction with a base alone, behind its register and a comma.
 #[inline(always)]
-fn based(op: MemOp, ra: Reg, words: &[u8]) -> Option<Insn>
+fn access_by_base(op: MemOp, ra: Reg, words: &[u8]) -> Option<Insn>
     ensures { IfSome result (λ i. (line : List ℕ) → HasFirst line ra words.now
         → Says (mnemonics.Mem op) line (code i)) }
 {
@@ -87,27 +88,27 @@ fn based(op: MemOp, ra: Reg, words: &[u8]) -> Option<Insn>
 
 // A memory instruction behind its register and a comma.
 #[inline(always)]
-fn accessing<'a>(op: MemOp, ra: Reg, words: &'a [u8]) -> Option<Lead<'a>>
+fn accessing<'a>(op: MemOp, ra: Reg, words: &'a [u8]) -> Option<InsnPrefix<'a>>
     ensures { IfSome result (λ l. (line : List ℕ) → HasFirst line ra words.now
-        → Leads (Says (mnemonics.Mem op) line) l) }
+        → PrefixSays (Says (mnemonics.Mem op) line) l) }
 {
     match words {
-        [b'%', ..] => Some(Lead::to(Insn::memory(op, ra, Reg::ZERO, 0), words)),
+        [b'%', ..] => Some(InsnPrefix::to(Insn::memory(op, ra, Reg::ZERO, 0), words)),
         [b'(', ..] => {
-            let insn = based(op, ra, words)?;
-            Some(Lead::whole(insn, words))
+            let insn = access_by_base(op, ra, words)?;
+            Some(InsnPrefix::whole(insn, words))
         }
         _ => {
-            let insn = displaced(op, ra, words)?;
-            Some(Lead::whole(insn, words))
+            let insn = access_by_displacement(op, ra, words)?;
+            Some(InsnPrefix::whole(insn, words))
         }
     }
 }
 
 // A memory instruction.
 #[inline(always)]
-fn memory(op: MemOp, words: &[u8]) -> Option<Lead<'_>>
-    ensures { IfSome result (Leads (Says (mnemonics.Mem op) words.now)) }
+fn memory(op: MemOp, words: &[u8]) -> Option<InsnPrefix<'_>>
+    ensures { IfSome result (PrefixSays (Says (mnemonics.Mem op) words.now)) }
 {
     let Some((ra, rest)) = first(words) else {
         return None;
@@ -127,44 +128,44 @@ fn over(op: BranchOp, ra: Reg, words: &[u8]) -> Option<Insn>
 
 // A branch behind its register and a comma.
 #[inline(always)]
-fn linked<'a>(op: BranchOp, ra: Reg, words: &'a [u8]) -> Option<Lead<'a>>
+fn branch_with_link<'a>(op: BranchOp, ra: Reg, words: &'a [u8]) -> Option<InsnPrefix<'a>>
     ensures { IfSome result (λ l. (line : List ℕ) → HasFirst line ra words.now
-        → Leads (Says (mnemonics.Branch op) line) l) }
+        → PrefixSays (Says (mnemonics.Branch op) line) l) }
 {
     match words {
         [b'.', ..] => {
             let insn = over(op, ra, words)?;
-            Some(Lead::whole(insn, words))
+            Some(InsnPrefix::whole(insn, words))
         }
-        _ => Some(Lead::to(Insn::branch(op, ra, 0), words)),
+        _ => Some(InsnPrefix::to(Insn::branch(op, ra, 0), words)),
     }
 }
 
 // A branch to a label, where no register is written.
 #[inline(always)]
-fn unlinked(op: BranchOp, words: &[u8]) -> Option<Lead<'_>>
-    ensures { IfSome result (Leads (Says (mnemonics.Branch op) words.now)) }
+fn branch_without_link(op: BranchOp, words: &[u8]) -> Option<InsnPrefix<'_>>
+    ensures { IfSome result (PrefixSays (Says (mnemonics.Branch op) words.now)) }
 {
     let ra = link(op);
     match op {
-        BranchOp::Br | BranchOp::Bsr => Some(Lead::to(Insn::branch(op, ra, 0), words)),
+        BranchOp::Br | BranchOp::Bsr => Some(InsnPrefix::to(Insn::branch(op, ra, 0), words)),
         _ => None,
     }
 }
 
 // A branch.
 #[inline(always)]
-fn branch(op: BranchOp, words: &[u8]) -> Option<Lead<'_>>
-    ensures { IfSome result (Leads (Says (mnemonics.Branch op) words.now)) }
+fn branch(op: BranchOp, words: &[u8]) -> Option<InsnPrefix<'_>>
+    ensures { IfSome result (PrefixSays (Says (mnemonics.Branch op) words.now)) }
 {
     match words {
         [b'$', ..] => {
             let Some((ra, rest)) = first(words) else {
                 return None;
             };
-            linked(op, ra, rest)
+            branch_with_link(op, ra, rest)
         }
-        _ => unlinked(op, words),
+        _ => branch_without_link(op, words),
     }
 }
 
@@ -294,19 +295,19 @@ fn of_rare_row(row: Mnemonic, words: &[u8]) -> Option<Insn>
 
 /// The instruction that a row's name gives with the words behind it, or with their front.
 #[inline(always)]
-pub(crate) fn of_row(row: Mnemonic, words: &[u8]) -> Option<Lead<'_>>
-    ensures { IfSome result (Leads (Says row words.now)) }
+pub(crate) fn of_row(row: Mnemonic, words: &[u8]) -> Option<InsnPrefix<'_>>
+    ensures { IfSome result (PrefixSays (Says row words.now)) }
 {
     match row {
         Mnemonic::Mem(op) => memory(op, words),
         Mnemonic::Branch(op) => branch(op, words),
         Mnemonic::Operate(op) if op.row().operands == OperandRule::Any => {
             let insn = two_sources(op, words)?;
-            Some(Lead::whole(insn, words))
+            Some(InsnPrefix::whole(insn, words))
         }
         _ => {
             let insn = of_rare_row(row, words)?;
-            Some(Lead::whole(insn, words))
+            Some(InsnPrefix::whole(insn, words))
         }
     }
 }
@@ -316,7 +317,7 @@ pub(crate) fn of_row(row: Mnemonic, words: &[u8]) -> Option<Lead<'_>>
 fn move_of_number(words: &[u8]) -> Option<Insn>
     ensures { IfSome result (λ i. StandsFor owns.Mov words.now i) }
 {
-    let (sign, n, rest) = signed(words)?;
+    let (sign, n, rest) = signed_number(words)?;
     let Some(Number::Immediate(n)) = number_at(Piece::Immediate, sign, n) else {
         return None;
     };
@@ -327,10 +328,10 @@ fn move_of_number(words: &[u8]) -> Option<Insn>
 
 // A pseudo-operation of two registers.
 #[inline(always)]
-fn paired(own: Own, words: &[u8]) -> Option<Insn>
-    ensures { IfSome result (λ i. StandsFor own words.now i) }
+fn pair_insn(pseudo_op: PseudoOp, words: &[u8]) -> Option<Insn>
+    ensures { IfSome result (λ i. StandsFor pseudo_op words.now i) }
 {
-    let op = operation(own)?;
+    let op = operation(pseudo_op)?;
     let registers = pair(words)?;
     Some(of_zero(op, Src::Reg(registers.rb), registers.rc))
 }
@@ -341,7 +342,7 @@ fn nop(words: &[u8]) -> Option<Insn>
     ensures { IfSome result (λ i. StandsFor owns.Nop words.now i) }
 {
     if is_end(words) {
-        Some(cleared(Reg::ZERO))
+        Some(clear_insn(Reg::ZERO))
     } else {
         None
     }
@@ -353,29 +354,29 @@ fn clear(words: &[u8]) -> Option<Insn>
     ensures { IfSome result (λ i. StandsFor owns.Clr words.now i) }
 {
     let rc = last(words)?;
-    Some(cleared(rc))
+    Some(clear_insn(rc))
 }
 
 // `mov`.
 #[inline(always)]
-fn moved(words: &[u8]) -> Option<Insn>
+fn move_insn(words: &[u8]) -> Option<Insn>
     ensures { IfSome result (λ i. StandsFor owns.Mov words.now i) }
 {
     match words {
-        [b'$', ..] => paired(Own::Mov, words),
+        [b'$', ..] => pair_insn(PseudoOp::Mov, words),
         _ => move_of_number(words),
     }
 }
 
 /// The instruction that a pseudo-operation stands for with the words behind it.
 #[inline(always)]
-pub(crate) fn of_own(own: Own, words: &[u8]) -> Option<Insn>
-    ensures { IfSome result (λ i. StandsFor own words.now i) }
+pub(crate) fn of_pseudo_op(pseudo_op: PseudoOp, words: &[u8]) -> Option<Insn>
+    ensures { IfSome result (λ i. StandsFor pseudo_op words.now i) }
 {
-    match own {
-        Own::Mov => moved(words),
-        Own::Clr => clear(words),
-        Own::Nop => nop(words),
-        _ => paired(own, words),
+    match pseudo_op {
+        PseudoOp::Mov => move_insn(words),
+        PseudoOp::Clr => clear(words),
+        PseudoOp::Nop => nop(words),
+        _ => pair_insn(pseudo_op, words),
     }
 }

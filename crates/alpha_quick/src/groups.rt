@@ -1,9 +1,11 @@
 //! Words of a line that stand together: a register with its comma, a base, a label with its offset, and what
 //! stands to the end of a line.
 ghost use Rattle.std.specs.Prelude.{IfSome};
-ghost use Rattle.alpha_quick.specs.Words.{HasFirst, HasBase, HasExpr, HasLastBase, HasTail, HasSource, HasLast, HasPair, HasUnary, HasBinary, HasWrittenHint, HasHint, HasJump, HasTarget, HasOffset, HasWords, HasDistance, HasAddress};
+ghost use Rattle.alpha_quick.specs.Words.{HasFirst, HasBase, HasExpr, HasLastBase, HasTail, HasSource, HasLast};
+ghost use Rattle.alpha_quick.specs.Words.{HasPair, HasUnary, HasBinary, HasWrittenHint, HasHint, HasJump, HasTarget};
+ghost use Rattle.alpha_quick.specs.Words.{HasOffset, HasWords, HasDistance, HasAddress};
 
-use crate::words::{behind_byte, close, comma, half, is_end, label, number, open, register};
+use crate::words::{after_byte, close, comma, half, is_end, label, number, open, register};
 use alpha_operands::{Expr, Half, Number, Piece, Sign, number_at, offset_at};
 use alpha_table::Src;
 use alpha_words::Reg;
@@ -49,11 +51,11 @@ pub(crate) fn expr(s: &[u8]) -> Option<(Expr<'_>, &[u8])>
     ensures { IfSome result (λ r. HasExpr s.now r.0.label.now r.0.offset r.1.now) }
 {
     let (label, behind) = label(s)?;
-    if let Some(digits) = behind_byte(b'+', behind) {
+    if let Some(digits) = after_byte(b'+', behind) {
         let (offset, rest) = offset(Sign::Plus, digits)?;
         return Some((Expr { label, offset }, rest));
     }
-    if let Some(digits) = behind_byte(b'-', behind) {
+    if let Some(digits) = after_byte(b'-', behind) {
         let (offset, rest) = offset(Sign::Minus, digits)?;
         return Some((Expr { label, offset }, rest));
     }
@@ -244,11 +246,11 @@ fn displacement(sign: Sign, digits: &[u8]) -> Option<i32>
 pub(crate) fn distance(s: &[u8]) -> Option<i32>
     ensures { IfSome result (λ words. HasDistance s.now words) }
 {
-    let behind = behind_byte(b'.', s)?;
-    if let Some(digits) = behind_byte(b'+', behind) {
+    let behind = after_byte(b'.', s)?;
+    if let Some(digits) = after_byte(b'+', behind) {
         return displacement(Sign::Plus, digits);
     }
-    let digits = behind_byte(b'-', behind)?;
+    let digits = after_byte(b'-', behind)?;
     displacement(Sign::Minus, digits)
 }
 

@@ -6,61 +6,61 @@ ghost use Rattle.std.specs.Option.{option_map};
 ghost use Rattle.alpha_token.specs.Bytes.{goes_on_label};
 ghost use Rattle.alpha_token.specs.Tokens.{tokens};
 ghost use Rattle.alpha_operands.specs.Operands.{Gives};
-ghost use Rattle.alpha_text.specs.Behind.{IsApart};
-ghost use Rattle.alpha_text.specs.Statements.{said, code, empty};
-ghost use Rattle.alpha_text.specs.Reading.{item_said, statement_of, line_of, read};
+ghost use Rattle.alpha_text.specs.SuffixWords.{IsApart};
+ghost use Rattle.alpha_text.specs.Statements.{stmt_of, code, empty};
+ghost use Rattle.alpha_text.specs.Reading.{line_stmt_of, statement_of, line_of, read};
 ghost use Rattle.alpha_quick.specs.Keys.{key_of, IsKeyed};
 ghost use Rattle.alpha_quick.specs.Parts.{SaysNamed, unlabelled};
-ghost use Rattle.alpha_quick.specs.Lead.{Leads, HasStatement};
-ghost use Rattle.alpha_quick.specs.Rest.{IsBehind, IsRest};
+ghost use Rattle.alpha_quick.specs.InsnPrefix.{PrefixSays, HasStatement};
+ghost use Rattle.alpha_quick.specs.Unparsed.{IsAfterLabel, IsUnparsed};
 ghost use Rattle.alpha_quick.specs.Words.{HasEnd};
 
 use crate::data::of_directive;
-use crate::forms::{Lead, of_own, of_row};
-use crate::front::Front;
-use crate::reach::reached;
-use crate::rows::{own_named, row_named};
-use crate::words::{behind_blanks, behind_byte, is_end, spaced};
+use crate::forms::{InsnPrefix, of_pseudo_op, of_row};
+use crate::lexeme::Lexeme;
+use crate::reach::with_label;
+use crate::rows::{pseudo_op_named, row_named};
+use crate::words::{after_blanks, after_byte, is_end, without_any_blanks};
 use alpha_table::Insn;
 use alpha_text::{Item, LineFault, Statement};
 use alpha_token::without_blanks;
 
 // What stands behind a name and its blanks, where the name ends there, but at no space.
 #[inline(always)]
-fn apart_otherwise(behind: &[u8]) -> Option<&[u8]>
-    ensures { IfSome result (λ words. IsApart behind.now × (tokens behind.now ≡ tokens words.now)) }
+fn after_name_otherwise(text: &[u8]) -> Option<&[u8]>
+    ensures { IfSome result (λ words. IsApart text.now × (tokens text.now ≡ tokens words.now)) }
 {
-    match behind {
-        [] | [b'#', ..] => Some(behind),
-        [b'\t', ..] => Some(without_blanks(behind)),
+    match text {
+        [] | [b'#', ..] => Some(text),
+        [b'\t', ..] => Some(without_blanks(text)),
         _ => None,
     }
 }
 
 // What stands behind a name and its blanks, where the name ends there.
 #[inline(always)]
-fn apart(behind: &[u8]) -> Option<&[u8]>
-    ensures { IfSome result (λ words. IsApart behind.now × (tokens behind.now ≡ tokens words.now)) }
+fn after_name(text: &[u8]) -> Option<&[u8]>
+    ensures { IfSome result (λ words. IsApart text.now × (tokens text.now ≡ tokens words.now)) }
 {
-    match behind_byte(b' ', behind) {
-        Some(words) => Some(behind_blanks(words)),
-        None => apart_otherwise(behind),
+    match after_byte(b' ', text) {
+        Some(words) => Some(after_blanks(words)),
+        None => after_name_otherwise(text),
     }
 }
 
 // The instruction of a name with what stands behind it, or with the front of that.
 #[inline(always)]
-fn lead_of<'a>(front: &Front<'a>) -> Option<Lead<'a>>
-    requires { IsKeyed front.now.name.now front.now.key.0 }
-    ensures { IfSome result (Leads (SaysNamed front.now.name.now front.now.behind.now)) }
+fn insn_prefix_of<'a>(lexeme: &Lexeme<'a>) -> Option<InsnPrefix<'a>>
+    requires { IsKeyed lexeme.now.name.now lexeme.now.key.0 }
+    ensures { IfSome result (PrefixSays (SaysNamed lexeme.now.name.now lexeme.now.rest.now)) }
 {
-    let words = apart(front.behind)?;
-    match row_named(front.name, front.key) {
+    let words = after_name(lexeme.rest)?;
+    match row_named(lexeme.name, lexeme.key) {
         Some(row) => of_row(row, words),
         None => {
-            let own = own_named(front.name, front.key)?;
-            let insn = of_own(own, words)?;
-            Some(Lead::whole(insn, words))
+            let pseudo_op = pseudo_op_named(lexeme.name, lexeme.key)?;
+            let insn = of_pseudo_op(pseudo_op, words)?;
+            Some(InsnPrefix::whole(insn, words))
         }
     }
 }
@@ -68,7 +68,7 @@ fn lead_of<'a>(front: &Front<'a>) -> Option<Lead<'a>>
 // The statement of a line that ends.
 #[inline(always)]
 fn empty(line: &[u8]) -> Option<Statement<'_>>
-    ensures { IfSome result (λ s. HasEnd line.now × (said s ≡ empty)) }
+    ensures { IfSome result (λ s. HasEnd line.now × (stmt_of s ≡ empty)) }
 {
     if is_end(line) {
         Some(Statement::Empty)
@@ -79,43 +79,51 @@ fn empty(line: &[u8]) -> Option<Statement<'_>>
 
 // The directive of a name with what stands behind it.
 #[inline(always)]
-fn directive_of<'a>(front: &Front<'a>) -> Option<Statement<'a>>
-    ensures { IfSome result (λ s. SaysNamed front.now.name.now front.now.behind.now (said s)) }
+fn directive_of<'a>(lexeme: &Lexeme<'a>) -> Option<Statement<'a>>
+    ensures { IfSome result (λ s. SaysNamed lexeme.now.name.now lexeme.now.rest.now (stmt_of s)) }
 {
-    let words = apart(front.behind)?;
-    let own = own_named(front.name, front.key)?;
-    of_directive(own, front.behind, words)
+    let words = after_name(lexeme.rest)?;
+    let pseudo_op = pseudo_op_named(lexeme.name, lexeme.key)?;
+    of_directive(pseudo_op, lexeme.rest, words)
 }
 
 // A line, cut behind its label and behind the first bytes of what stands behind that which go on a label.
 #[derive(Clone, Copy)]
-struct Cut<'a> {
+struct SplitLine<'a> {
     label: Option<&'a [u8]>,
     // What stands behind the label, or behind the blanks at the front of a line without one.
     text: &'a [u8],
-    front: Front<'a>,
+    lexeme: Lexeme<'a>,
 }
 
-impl<'a> Cut<'a> {
+impl<'a> SplitLine<'a> {
     #[inline(always)]
-    fn of(line: &'a [u8]) -> Cut<'a>
-        ensures line { IsBehind line.now (option_map (λ l. l.now) result.label) result.text.now }
-        ensures text { result.text.now ≡ result.front.name.now ++ result.front.behind.now }
-        ensures name { list_all goes_on_label result.front.name.now ≡ true }
-        ensures key { result.front.key.0 ≡ key_of result.front.name.now }
+    fn of(line: &'a [u8]) -> SplitLine<'a>
+        ensures line { IsAfterLabel line.now (option_map (λ l. l.now) result.label) result.text.now }
+        ensures text { result.text.now ≡ result.lexeme.name.now ++ result.lexeme.rest.now }
+        ensures name { list_all goes_on_label result.lexeme.name.now ≡ true }
+        ensures key { result.lexeme.key.0 ≡ key_of result.lexeme.name.now }
     {
-        let text = behind_blanks(line);
-        let front = Front::of(text);
-        match behind_byte(b':', front.behind) {
-            Some(rest) if front.is_label() => {
-                let label = Some(front.name);
-                let text = spaced(rest);
-                let front = Front::of(text);
-                Cut { label, text, front }
+        let text = after_blanks(line);
+        let lexeme = Lexeme::of(text);
+        match after_byte(b':', lexeme.rest) {
+            Some(rest) if lexeme.is_label() => {
+                let label = Some(lexeme.name);
+                let text = without_any_blanks(rest);
+                let lexeme = Lexeme::of(text);
+                SplitLine {
+                    label,
+                    text,
+                    lexeme,
+                }
             }
             _ => {
                 let label = None;
-                Cut { label, text, front }
+                SplitLine {
+                    label,
+                    text,
+                    lexeme,
+                }
             }
         }
     }
@@ -123,13 +131,13 @@ impl<'a> Cut<'a> {
 
 /// A line of which no instruction alone was read, as far as it was read.
 #[derive(Clone, Copy)]
-pub struct Rest<'a> {
+pub struct Unparsed<'a> {
     /// The line.
     pub line: &'a [u8],
     // Its label, if it has one.
     pub(crate) label: Option<&'a [u8]>,
     // What stands behind the label and blanks.
-    pub(crate) front: Front<'a>,
+    pub(crate) lexeme: Lexeme<'a>,
     // The instruction at the front of that, if there is one.
     pub(crate) insn: Option<Insn>,
     // Whether it is to reach a label.
@@ -138,27 +146,27 @@ pub struct Rest<'a> {
     pub(crate) left: &'a [u8],
 }
 
-impl<'a> Rest<'a> {
+impl<'a> Unparsed<'a> {
     // The statement behind the label.
     #[inline(always)]
     fn statement(&self) -> Option<Statement<'a>>
-        requires { IsRest self.now }
+        requires { IsUnparsed self.now }
         ensures { IfSome result (λ s.
-            HasStatement (self.now.front.name.now ++ self.now.front.behind.now) (said s)) }
+            HasStatement (self.now.lexeme.name.now ++ self.now.lexeme.rest.now) (stmt_of s)) }
     {
         match self.insn {
             Some(insn) => {
                 if self.reaches {
-                    reached(insn, self.left)
+                    with_label(insn, self.left)
                 } else {
                     Some(Statement::Code(insn))
                 }
             }
             None => {
-                if self.front.name.is_empty() {
-                    empty(self.front.behind)
+                if self.lexeme.name.is_empty() {
+                    empty(self.lexeme.rest)
                 } else {
-                    directive_of(&self.front)
+                    directive_of(&self.lexeme)
                 }
             }
         }
@@ -169,9 +177,9 @@ impl<'a> Rest<'a> {
     #[tactic(auto, unfolding(alpha_text::specs::Reading::read))]
     #[inline(always)]
     pub fn item(&self) -> Result<Item<'a>, LineFault>
-        requires read { IsRest self.now }
+        requires read { IsUnparsed self.now }
         requires size { length self.now.line.now ≤ 1024 }
-        ensures { Gives item_said result (read self.now.line.now) }
+        ensures { Gives line_stmt_of result (read self.now.line.now) }
     {
         let label = self.label;
         match self.statement() {
@@ -184,34 +192,34 @@ impl<'a> Rest<'a> {
 /// The instruction of a line that has no label and names none, or the line as far as it was read, which may have such
 /// an instruction too.
 #[inline(always)]
-pub fn read_insn(line: &[u8]) -> Result<Insn, Rest<'_>>
+pub fn read_insn(line: &[u8]) -> Result<Insn, Unparsed<'_>>
     ensures line { IfOk result (λ i. line_of (tokens line.now) ≡ Ok (unlabelled i)) }
     ensures statement { IfOk result (λ i. statement_of (tokens line.now) ≡ Ok (code i)) }
-    ensures rest { IfErr result IsRest }
+    ensures rest { IfErr result IsUnparsed }
     ensures same { IfErr result (λ rest. rest.line.now ≡ line.now) }
 {
-    let cut = Cut::of(line);
-    let (label, front) = (cut.label, cut.front);
+    let cut = SplitLine::of(line);
+    let (label, front) = (cut.label, cut.lexeme);
     let whole = front.with_trap(cut.text);
-    match lead_of(&whole) {
-        Some(lead) => {
-            if lead.reaches || label.is_some() {
-                Err(Rest {
+    match insn_prefix_of(&whole) {
+        Some(prefix) => {
+            if prefix.reaches || label.is_some() {
+                Err(Unparsed {
                     line,
                     label,
-                    front,
-                    insn: Some(lead.insn),
-                    reaches: lead.reaches,
-                    left: lead.left,
+                    lexeme: front,
+                    insn: Some(prefix.insn),
+                    reaches: prefix.reaches,
+                    left: prefix.left,
                 })
             } else {
-                Ok(lead.insn)
+                Ok(prefix.insn)
             }
         }
-        None => Err(Rest {
+        None => Err(Unparsed {
             line,
             label,
-            front,
+            lexeme: front,
             insn: None,
             reaches: false,
             left: line,
@@ -225,7 +233,7 @@ pub fn read_insn(line: &[u8]) -> Result<Insn, Rest<'_>>
 #[inline(always)]
 pub fn read_line(line: &[u8]) -> Result<Item<'_>, LineFault>
     requires { length line.now ≤ 1024 }
-    ensures value { Gives item_said result (read line.now) }
+    ensures value { Gives line_stmt_of result (read line.now) }
 {
     match read_insn(line) {
         Ok(insn) => Ok(Item {

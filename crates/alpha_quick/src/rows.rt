@@ -1,12 +1,12 @@
 ghost use Rattle.std.specs.Prelude.{◌≡◌, IfSome, IsTrue};
 ghost use Rattle.alpha_table.specs.Names.{name_of};
-ghost use Rattle.alpha_text.specs.Heads.{own_name};
+ghost use Rattle.alpha_text.specs.Heads.{pseudo_op_name};
 ghost use Rattle.alpha_quick.specs.Keys.{are_named, is_named, IsKeyed};
 
 use crate::key::NameKey;
 use alpha_table::Mnemonic::{self, Branch, Fetch, Jump, Mem, Misc, Operate, Pal};
 use alpha_table::{BranchOp, JumpKind, MemOp, MiscOp, Op};
-use alpha_text::Own;
+use alpha_text::PseudoOp;
 use alpha_words::PalCall;
 
 // A row of the instruction table with the key of its name.
@@ -170,33 +170,33 @@ static ROWS: [KeyedRow; 116] = keyed_rows! {
 };
 
 // The names beside the table.
-static OWNS: [Own; 26] = [
-    Own::Byte,
-    Own::Word,
-    Own::Long,
-    Own::Quad,
-    Own::Ascii,
-    Own::Zero,
-    Own::Align,
-    Own::Code,
-    Own::Data,
-    Own::Segment,
-    Own::CodeBase,
-    Own::DataBase,
-    Own::Stack,
-    Own::Entry,
-    Own::Level,
-    Own::Mov,
-    Own::Clr,
-    Own::Nop,
-    Own::Unop,
-    Own::Not,
-    Own::Negl,
-    Own::Negq,
-    Own::NeglV,
-    Own::NegqV,
-    Own::Sextl,
-    Own::CallPal,
+static PSEUDO_OPS: [PseudoOp; 26] = [
+    PseudoOp::Byte,
+    PseudoOp::Word,
+    PseudoOp::Long,
+    PseudoOp::Quad,
+    PseudoOp::Ascii,
+    PseudoOp::Zero,
+    PseudoOp::Align,
+    PseudoOp::Code,
+    PseudoOp::Data,
+    PseudoOp::Segment,
+    PseudoOp::CodeBase,
+    PseudoOp::DataBase,
+    PseudoOp::Stack,
+    PseudoOp::Entry,
+    PseudoOp::Level,
+    PseudoOp::Mov,
+    PseudoOp::Clr,
+    PseudoOp::Nop,
+    PseudoOp::Unop,
+    PseudoOp::Not,
+    PseudoOp::Negl,
+    PseudoOp::Negq,
+    PseudoOp::NeglV,
+    PseudoOp::NegqV,
+    PseudoOp::Sextl,
+    PseudoOp::CallPal,
 ];
 
 // A name's key is multiplied by this number, and the upper ten bits of the product are the name's slot. No two
@@ -297,9 +297,13 @@ pub(crate) fn row_named(name: &[u8], key: NameKey) -> Option<Mnemonic>
 
 /// Which of the names beside the table this is. Some of them have more than eight bytes, so a key doesn't tell
 /// them, and the name at the place of the key is compared byte by byte.
-pub(crate) fn own_named(name: &[u8], key: NameKey) -> Option<Own>
-    ensures { IfSome result (λ own. own_name own ≡ name.now) }
+pub(crate) fn pseudo_op_named(name: &[u8], key: NameKey) -> Option<PseudoOp>
+    ensures { IfSome result (λ own. pseudo_op_name own ≡ name.now) }
 {
-    let own = *OWNS.get(place_of(key)?.checked_sub(ROWS.len())?)?;
-    if own.name() == name { Some(own) } else { None }
+    let pseudo_op = *PSEUDO_OPS.get(place_of(key)?.checked_sub(ROWS.len())?)?;
+    if pseudo_op.name() == name {
+        Some(pseudo_op)
+    } else {
+        None
+    }
 }

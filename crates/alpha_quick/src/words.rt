@@ -4,17 +4,18 @@ ghost use Rattle.std.specs.Prelude.{◌≡◌, ◌<◌, ◌+◌, ◌∷◌, ◌+
 ghost use Rattle.std.specs.Char.{is_ascii_alphanumeric};
 ghost use Rattle.alpha_token.specs.declared.token.TokenKind.TheVariants as kinds;
 ghost use Rattle.alpha_token.specs.Tokens.{tokens};
-ghost use Rattle.alpha_quick.specs.Words.{HasMark, HasComma, HasRegister, HasNumber, HasLabel, HasOpened, HasEnd, HasSigned};
-ghost use Rattle.alpha_text.specs.Behind.{Stops};
+ghost use Rattle.alpha_quick.specs.Words.{HasMark, HasComma, HasRegister, HasNumber, HasLabel, HasOpened, HasEnd};
+ghost use Rattle.alpha_quick.specs.Words.{HasSigned};
+ghost use Rattle.alpha_text.specs.SuffixWords.{BeginsWithout};
 
-use crate::front::{Front, ends_name};
+use crate::lexeme::{Lexeme, ends_name};
 use alpha_operands::{Half, Sign};
 use alpha_token::{Step, TokenKind, next, without_blanks};
 use alpha_words::Reg;
 
 /// What stands behind the blanks at the front, which most words don't have before them.
 #[inline(always)]
-pub(crate) fn behind_blanks(s: &[u8]) -> &[u8]
+pub(crate) fn after_blanks(s: &[u8]) -> &[u8]
     ensures { tokens s.now ≡ tokens result.now }
 {
     match s {
@@ -26,7 +27,7 @@ pub(crate) fn behind_blanks(s: &[u8]) -> &[u8]
 // Whether no letter and no digit goes on a word here.
 #[inline(always)]
 fn ends_word(s: &[u8]) -> bool
-    ensures { IsTrue result → Stops is_ascii_alphanumeric s.now }
+    ensures { IsTrue result → BeginsWithout is_ascii_alphanumeric s.now }
 {
     match s {
         [first, ..] => *first < b'0' || !first.is_ascii_alphanumeric(),
@@ -36,7 +37,7 @@ fn ends_word(s: &[u8]) -> bool
 
 /// What stands behind a byte at the front.
 #[inline(always)]
-pub(crate) fn behind_byte(byte: u8, s: &[u8]) -> Option<&[u8]>
+pub(crate) fn after_byte(byte: u8, s: &[u8]) -> Option<&[u8]>
     ensures { IfSome result (λ r. s.now ≡ byte ∷ r.now) }
 {
     match s {
@@ -58,7 +59,7 @@ fn digit(s: &[u8]) -> Option<(u32, &[u8])>
 }
 
 // A number with the digits behind it, eight at most.
-#[tactic(auto, using(crate::proofs::Joined::decimal_behind))]
+#[tactic(auto, using(crate::proofs::Joined::decimal_next_digit))]
 #[inline(always)]
 fn with_digits(first: u32, s: &[u8]) -> (u32, &[u8])
     requires some { 0 < first }
@@ -94,7 +95,7 @@ fn decimal(s: &[u8]) -> Option<(u32, &[u8])>
 }
 
 // A number of one digit or two at the front, and what stands behind it.
-#[tactic(auto, using(std::proofs::lemmas::Fmt::decimal_digit, crate::proofs::Joined::decimal_behind))]
+#[tactic(auto, using(std::proofs::lemmas::Fmt::decimal_digit, crate::proofs::Joined::decimal_next_digit))]
 #[inline(always)]
 fn register_number(s: &[u8]) -> Option<(u32, &[u8])>
     ensures { IfSome result (λ r. s.now ≡ decimal r.0 ++ r.1.now) }
@@ -108,7 +109,7 @@ fn register_number(s: &[u8]) -> Option<(u32, &[u8])>
 
 /// What stands behind any blanks at the front. It is a call, since few words need it.
 #[inline(never)]
-pub(crate) fn spaced(s: &[u8]) -> &[u8]
+pub(crate) fn without_any_blanks(s: &[u8]) -> &[u8]
     ensures { tokens s.now ≡ tokens result.now }
 {
     without_blanks(s)
@@ -116,10 +117,10 @@ pub(crate) fn spaced(s: &[u8]) -> &[u8]
 
 // What stands behind a byte at the front, behind blanks.
 #[inline(always)]
-fn behind_spaced(byte: u8, s: &[u8]) -> Option<&[u8]>
+fn after_blanks_and_byte(byte: u8, s: &[u8]) -> Option<&[u8]>
     ensures { IfSome result (λ r. tokens s.now ≡ tokens (byte ∷ r.now)) }
 {
-    behind_byte(byte, spaced(s))
+    after_byte(byte, without_any_blanks(s))
 }
 
 /// What stands behind a comma at the front and the blanks behind it.
@@ -127,11 +128,11 @@ fn behind_spaced(byte: u8, s: &[u8]) -> Option<&[u8]>
 pub(crate) fn comma(s: &[u8]) -> Option<&[u8]>
     ensures { IfSome result (λ r. HasComma s.now r.now) }
 {
-    match behind_byte(b',', s) {
-        Some(rest) => Some(behind_blanks(rest)),
+    match after_byte(b',', s) {
+        Some(rest) => Some(after_blanks(rest)),
         None => {
-            let rest = behind_spaced(b',', s)?;
-            Some(behind_blanks(rest))
+            let rest = after_blanks_and_byte(b',', s)?;
+            Some(after_blanks(rest))
         }
     }
 }
@@ -141,9 +142,9 @@ pub(crate) fn comma(s: &[u8]) -> Option<&[u8]>
 pub(crate) fn open(s: &[u8]) -> Option<&[u8]>
     ensures { IfSome result (λ r. HasMark s.now kinds.Open r.now) }
 {
-    match behind_byte(b'(', s) {
+    match after_byte(b'(', s) {
         Some(rest) => Some(rest),
-        None => behind_spaced(b'(', s),
+        None => after_blanks_and_byte(b'(', s),
     }
 }
 
@@ -152,15 +153,15 @@ pub(crate) fn open(s: &[u8]) -> Option<&[u8]>
 pub(crate) fn close(s: &[u8]) -> Option<&[u8]>
     ensures { IfSome result (λ r. HasMark s.now kinds.Close r.now) }
 {
-    match behind_byte(b')', s) {
+    match after_byte(b')', s) {
         Some(rest) => Some(rest),
-        None => behind_spaced(b')', s),
+        None => after_blanks_and_byte(b')', s),
     }
 }
 
 // Whether the line ends behind blanks, or its comment begins there.
 #[inline(never)]
-fn ends_behind(s: &[u8]) -> bool
+fn ends_after_blanks(s: &[u8]) -> bool
     ensures { IsTrue result → HasEnd s.now }
 {
     match without_blanks(s) {
@@ -174,15 +175,15 @@ fn ends_behind(s: &[u8]) -> bool
 pub(crate) fn is_end(s: &[u8]) -> bool
     ensures { IsTrue result → HasEnd s.now }
 {
-    s.is_empty() || ends_behind(s)
+    s.is_empty() || ends_after_blanks(s)
 }
 
 // A register by its number, with nothing before it.
 #[inline(always)]
-fn numbered(s: &[u8]) -> Option<(Reg, &[u8])>
+fn register_by_number(s: &[u8]) -> Option<(Reg, &[u8])>
     ensures { IfSome result (λ r. HasRegister s.now r.0 r.1.now) }
 {
-    let digits = behind_byte(b'$', s)?;
+    let digits = after_byte(b'$', s)?;
     let (n, rest) = register_number(digits)?;
     if n < 32 && ends_word(rest) {
         let r = Reg::new(n as u8)?;
@@ -221,10 +222,10 @@ fn letter(s: &[u8]) -> Option<(u8, &[u8])>
 }
 
 // A register by a name of two letters or digits, with nothing before it.
-fn lettered(s: &[u8]) -> Option<(Reg, &[u8])>
+fn register_by_letters(s: &[u8]) -> Option<(Reg, &[u8])>
     ensures { IfSome result (λ r. HasRegister s.now r.0 r.1.now) }
 {
-    let name = behind_byte(b'$', s)?;
+    let name = after_byte(b'$', s)?;
     let (first, behind) = letter(name)?;
     let (second, rest) = letter(behind)?;
     if ends_word(rest) {
@@ -240,7 +241,7 @@ fn lettered(s: &[u8]) -> Option<(Reg, &[u8])>
 fn other_register(s: &[u8]) -> Option<(Reg, &[u8])>
     ensures { IfSome result (λ r. HasRegister s.now r.0 r.1.now) }
 {
-    match lettered(s) {
+    match register_by_letters(s) {
         Some(found) => Some(found),
         None => any_register(s),
     }
@@ -260,7 +261,7 @@ fn sought_register(s: &[u8]) -> Option<(Reg, &[u8])>
 pub(crate) fn register(s: &[u8]) -> Option<(Reg, &[u8])>
     ensures { IfSome result (λ r. HasRegister s.now r.0 r.1.now) }
 {
-    match numbered(s) {
+    match register_by_number(s) {
         Some(found) => Some(found),
         None => sought_register(s),
     }
@@ -318,10 +319,10 @@ pub(crate) fn number(s: &[u8]) -> Option<(u64, &[u8])>
 
 /// A number with its sign at the front, and what stands behind it.
 #[inline(always)]
-pub(crate) fn signed(s: &[u8]) -> Option<(Sign, u64, &[u8])>
+pub(crate) fn signed_number(s: &[u8]) -> Option<(Sign, u64, &[u8])>
     ensures { IfSome result (λ r. HasSigned s.now r.0 r.1 r.2.now) }
 {
-    match behind_byte(b'-', s) {
+    match after_byte(b'-', s) {
         Some(digits) => {
             let (n, rest) = number(digits)?;
             Some((Sign::Minus, n, rest))
@@ -338,9 +339,9 @@ pub(crate) fn signed(s: &[u8]) -> Option<(Sign, u64, &[u8])>
 pub(crate) fn label(s: &[u8]) -> Option<(&[u8], &[u8])>
     ensures { IfSome result (λ r. HasLabel s.now r.0.now r.1.now) }
 {
-    let front = Front::of(s);
-    if front.is_label() && ends_name(front.behind) {
-        Some((front.name, front.behind))
+    let lexeme = Lexeme::of(s);
+    if lexeme.is_label() && ends_name(lexeme.rest) {
+        Some((lexeme.name, lexeme.rest))
     } else {
         None
     }
@@ -348,12 +349,12 @@ pub(crate) fn label(s: &[u8]) -> Option<(&[u8], &[u8])>
 
 // What stands behind two letters and `(` at the front.
 #[inline(always)]
-fn behind_letters(first: u8, second: u8, s: &[u8]) -> Option<&[u8]>
+fn after_letters(first: u8, second: u8, s: &[u8]) -> Option<&[u8]>
     ensures { IfSome result (λ r. s.now ≡ first ∷ second ∷ 40 ∷ r.now) }
 {
-    let rest = behind_byte(first, s)?;
-    let rest = behind_byte(second, rest)?;
-    behind_byte(b'(', rest)
+    let rest = after_byte(first, s)?;
+    let rest = after_byte(second, rest)?;
+    after_byte(b'(', rest)
 }
 
 /// `%hi` or `%lo` and `(` at the front, and what stands behind them.
@@ -361,11 +362,11 @@ fn behind_letters(first: u8, second: u8, s: &[u8]) -> Option<&[u8]>
 pub(crate) fn half(s: &[u8]) -> Option<(Half, &[u8])>
     ensures { IfSome result (λ r. HasOpened s.now r.0 r.1.now) }
 {
-    let name = behind_byte(b'%', s)?;
-    match behind_letters(b'h', b'i', name) {
+    let name = after_byte(b'%', s)?;
+    match after_letters(b'h', b'i', name) {
         Some(inner) => Some((Half::High, inner)),
         None => {
-            let inner = behind_letters(b'l', b'o', name)?;
+            let inner = after_letters(b'l', b'o', name)?;
             Some((Half::Low, inner))
         }
     }

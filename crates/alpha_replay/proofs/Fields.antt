@@ -5,7 +5,7 @@ use Rattle.std.proofs.lemmas.Bool.{eqb-true, leb-true, ltb-true, le-leb, lt-ltb}
 use Rattle.alpha_words.specs.declared.Completion.{Completion}
 use Rattle.alpha_words.specs.declared.Completion.TheVariants.{Wrap, Saturate, Stop}
 use Rattle.alpha_image.specs.FirstOf.{unless}
-use Rattle.alpha_image.proofs.FieldRules.{option_or-none, unless-none}
+use Rattle.alpha_image.proofs.FieldRules.{option_or-both_none, unless-none}
 use Rattle.alpha_replay.specs.declared.ending.Ending.{Ending}
 use Rattle.alpha_replay.specs.declared.ending.Ending.TheVariants.{Exit}
 use Rattle.alpha_replay.specs.Endings.{ending_kind, ending_first, ending_second, ending_in, unused_are_zero}
@@ -24,12 +24,12 @@ pub record FieldsFit (n : Numbers) : Type 0 where
 
 pub bad_field-FieldsFit : (n : Numbers) → bad_field n ≡ None → FieldsFit n
 bad_field-FieldsFit n e =
-    let a = option_or-none (unless (ltb n.completion 3) 1) _ e in
-    let b = option_or-none (unless (ltb n.kind 8) 2) _ a.1 in
-    let c = option_or-none (unless (unused_are_zero n.kind n.first n.second) 3) _ b.1 in
-    let d = option_or-none (unless (leb n.input most_bytes) 4) _ c.1 in
-    let f = option_or-none (unless (leb n.output most_bytes) 5) _ d.1 in
-    let g = option_or-none (unless (leb n.items most_items) 6) _ f.1 in
+    let a = option_or-both_none (unless (ltb n.completion 3) 1) _ e in
+    let b = option_or-both_none (unless (ltb n.kind 8) 2) _ a.1 in
+    let c = option_or-both_none (unless (unused_are_zero n.kind n.first n.second) 3) _ b.1 in
+    let d = option_or-both_none (unless (leb n.input most_bytes) 4) _ c.1 in
+    let f = option_or-both_none (unless (leb n.output most_bytes) 5) _ d.1 in
+    let g = option_or-both_none (unless (leb n.items most_items) 6) _ f.1 in
     record {
       completion = ltb-true _ _ (unless-none _ _ a.0);
       kind = ltb-true _ _ (unless-none _ _ b.0);
@@ -41,7 +41,14 @@ bad_field-FieldsFit n e =
 
 pub FieldsFit-bad_field : (n : Numbers) → FieldsFit n → bad_field n ≡ None
 FieldsFit-bad_field n fit =
-    rw (lt-ltb n.completion 3 fit.completion, lt-ltb n.kind 8 fit.kind, fit.unused, le-leb n.input most_bytes fit.input, le-leb n.output most_bytes fit.output, le-leb n.items most_items fit.items) refl
+    rw (
+      lt-ltb n.completion 3 fit.completion,
+      lt-ltb n.kind 8 fit.kind,
+      fit.unused,
+      le-leb n.input most_bytes fit.input,
+      le-leb n.output most_bytes fit.output,
+      le-leb n.items most_items fit.items,
+    ) refl
 
 -- the completion of a number has it
 pub number-completion_in : (n : ℕ) → n < 3 → completion_number (completion_in n) ≡ n
@@ -70,17 +77,22 @@ both : (a b : Bool) → a && b ≡ true → (a ≡ true) × (b ≡ true)
 both true b e = (refl, e)
 both false b e = absurd cc
 
-pub ending_in-HasNumbers : (kind first second : ℕ) → kind < 8 → unused_are_zero kind first second ≡ true → HasNumbers kind first second
+pub ending_in-HasNumbers : (kind first second : ℕ) → kind < 8 → unused_are_zero kind first second ≡ true
+    → HasNumbers kind first second
 ending_in-HasNumbers zero a b h u =
     let e = both _ _ u in
     record { kind_is = refl; first_is = sym (eqb-true a 0 e.0); second_is = sym (eqb-true b 0 e.1) }
 ending_in-HasNumbers (suc zero) a b h u = record { kind_is = refl; first_is = refl; second_is = sym (eqb-true b 0 u) }
 ending_in-HasNumbers (suc (suc zero)) a b h u = record { kind_is = refl; first_is = refl; second_is = refl }
-ending_in-HasNumbers (suc (suc (suc zero))) a b h u = record { kind_is = refl; first_is = refl; second_is = sym (eqb-true b 0 u) }
+ending_in-HasNumbers (suc (suc (suc zero))) a b h u =
+    record { kind_is = refl; first_is = refl; second_is = sym (eqb-true b 0 u) }
 ending_in-HasNumbers (suc (suc (suc (suc zero)))) a b h u = record { kind_is = refl; first_is = refl; second_is = refl }
-ending_in-HasNumbers (suc (suc (suc (suc (suc zero))))) a b h u = record { kind_is = refl; first_is = refl; second_is = refl }
-ending_in-HasNumbers (suc (suc (suc (suc (suc (suc zero)))))) a b h u = record { kind_is = refl; first_is = refl; second_is = refl }
-ending_in-HasNumbers (suc (suc (suc (suc (suc (suc (suc zero))))))) a b h u = record { kind_is = refl; first_is = refl; second_is = sym (eqb-true b 0 u) }
+ending_in-HasNumbers (suc (suc (suc (suc (suc zero))))) a b h u =
+    record { kind_is = refl; first_is = refl; second_is = refl }
+ending_in-HasNumbers (suc (suc (suc (suc (suc (suc zero)))))) a b h u =
+    record { kind_is = refl; first_is = refl; second_is = refl }
+ending_in-HasNumbers (suc (suc (suc (suc (suc (suc (suc zero))))))) a b h u =
+    record { kind_is = refl; first_is = refl; second_is = sym (eqb-true b 0 u) }
 ending_in-HasNumbers (suc (suc (suc (suc (suc (suc (suc (suc k)))))))) a b h u = absurd (omega arith)
 
 pub ending_in-numbers : (e : Ending) → ending_in (ending_kind e) (ending_first e) (ending_second e) ≡ e

@@ -1,23 +1,28 @@
 -- The bytes of an item give it again, and it is all that they can give.
-use Rattle.std.proofs.Common.{◌≡◌, ℕ, zero, suc, ◌<◌, ◌≤◌, Bool, true, false, cond, eqb, leb, List, [], ◌∷◌, ◌++◌, length, get_or, drop, Option, Some, None, ◌⊎◌, inl, inr, refl, sym, ap, ◌∙◌, arith}
+use Rattle.std.proofs.Common.{◌≡◌, ℕ, zero, suc, ◌<◌, ◌≤◌, Bool, true, false, cond, eqb, leb, List, [], ◌∷◌, ◌++◌}
+use Rattle.std.proofs.Common.{length, get_or, drop, Option, Some, None, ◌⊎◌, inl, inr, refl, sym, ap, ◌∙◌, arith}
 use Rattle.std.specs.Prelude.{not, ◌&&◌}
 use Rattle.std.proofs.lemmas.Bool.{eqb-true, ne_eqb, le-leb, leb-true}
 use Rattle.alpha_image.specs.Layout.{quadword, longword}
 use Rattle.alpha_image.specs.Reading.{quadword_at, longword_at}
-use Rattle.alpha_image.proofs.Numbers.{IsBytes, quadword_at-front, longword_at-front, drop-quadword, drop-longword, quadword_at-lt, longword_at-lt}
+use Rattle.alpha_image.proofs.Numbers.{IsBytes, quadword_at-front, longword_at-front, drop-quadword, drop-longword}
+use Rattle.alpha_image.proofs.Numbers.{quadword_at-lt, longword_at-lt}
 use Rattle.alpha_replay.specs.declared.item.Item.{Item}
 use Rattle.alpha_replay.specs.declared.item.Item.TheVariants.{Units, Trigger, Wait, Report}
 use Rattle.alpha_replay.specs.Items.{flag, item_bytes, item_size, is_units, FitsItem, item_in}
 
 -- what bytes have that begin with an item
-pub data Seen (behind : Bool) (bytes : List ℕ) (i : Item) : Type 0 where
-  SeenUnits : get_or bytes 0 0 ≡ 0 → behind ≡ false → 5 ≤ length bytes → 0 < longword_at 1 bytes → i ≡ Units (longword_at 1 bytes) → Seen behind bytes i
-  SeenTrigger : get_or bytes 0 0 ≡ 1 → 9 ≤ length bytes → i ≡ Trigger (quadword_at 1 bytes) → Seen behind bytes i
-  SeenWait : get_or bytes 0 0 ≡ 2 → 10 ≤ length bytes → get_or bytes 1 0 ≤ 1 → i ≡ Wait (eqb (get_or bytes 1 0) 1) (quadword_at 2 bytes) → Seen behind bytes i
-  SeenReport : get_or bytes 0 0 ≡ 3 → 1 ≤ length bytes → i ≡ Report → Seen behind bytes i
+pub data ItemAt (behind : Bool) (bytes : List ℕ) (i : Item) : Type 0 where
+  SeenUnits : get_or bytes 0 0 ≡ 0 → behind ≡ false → 5 ≤ length bytes → 0 < longword_at 1 bytes
+      → i ≡ Units (longword_at 1 bytes) → ItemAt behind bytes i
+  SeenTrigger : get_or bytes 0 0 ≡ 1 → 9 ≤ length bytes → i ≡ Trigger (quadword_at 1 bytes) → ItemAt behind bytes i
+  SeenWait : get_or bytes 0 0 ≡ 2 → 10 ≤ length bytes → get_or bytes 1 0 ≤ 1
+      → i ≡ Wait (eqb (get_or bytes 1 0) 1) (quadword_at 2 bytes) → ItemAt behind bytes i
+  SeenReport : get_or bytes 0 0 ≡ 3 → 1 ≤ length bytes → i ≡ Report → ItemAt behind bytes i
 
 -- which of two a choice is
-split : (b : Bool) (o p : Option Item) (i : Item) → cond b o p ≡ Some i → ((b ≡ true) × (o ≡ Some i)) ⊎ ((b ≡ false) × (p ≡ Some i))
+split : (b : Bool) (o p : Option Item) (i : Item) → cond b o p ≡ Some i
+    → ((b ≡ true) × (o ≡ Some i)) ⊎ ((b ≡ false) × (p ≡ Some i))
 split true o p i e = inl (refl, e)
 split false o p i e = inr (refl, e)
 
@@ -38,8 +43,8 @@ positive : (n : ℕ) → eqb n 0 ≡ false → 0 < n
 positive zero e = absurd cc
 positive (suc n) e = omega arith
 
-pub seen : (behind : Bool) (bytes : List ℕ) (i : Item) → item_in behind bytes ≡ Some i → Seen behind bytes i
-seen behind bytes i e =
+pub item_in-ItemAt : (behind : Bool) (bytes : List ℕ) (i : Item) → item_in behind bytes ≡ Some i → ItemAt behind bytes i
+item_in-ItemAt behind bytes i e =
     elim (split (eqb (length bytes) 0) _ _ i e) [
       | inl h ↦ absurd (let none : None ≡ Some i = h.1 in cc)
       | inr h ↦
@@ -65,15 +70,16 @@ seen behind bytes i e =
           ]
     ]
 
-seen-size : (behind : Bool) (bytes : List ℕ) (i : Item) → Seen behind bytes i → item_size i ≤ length bytes
+seen-size : (behind : Bool) (bytes : List ℕ) (i : Item) → ItemAt behind bytes i → item_size i ≤ length bytes
 seen-size behind bytes i (SeenUnits k b long n e) = rw e long
 seen-size behind bytes i (SeenTrigger k long e) = rw e long
 seen-size behind bytes i (SeenWait k long f e) = rw e long
 seen-size behind bytes i (SeenReport k long e) = rw e long
 
 -- an item lies within the bytes that give it
-pub item_in-size : (behind : Bool) (bytes : List ℕ) (i : Item) → item_in behind bytes ≡ Some i → item_size i ≤ length bytes
-item_in-size behind bytes i e = seen-size behind bytes i (seen behind bytes i e)
+pub item_in-size : (behind : Bool) (bytes : List ℕ) (i : Item) → item_in behind bytes ≡ Some i
+    → item_size i ≤ length bytes
+item_in-size behind bytes i e = seen-size behind bytes i (item_in-ItemAt behind bytes i e)
 
 -- the first byte and those behind it
 first_byte : (bytes : List ℕ) (n : ℕ) → 1 ≤ length bytes → get_or bytes 0 0 ≡ n → bytes ≡ n ∷ drop 1 bytes
@@ -91,42 +97,47 @@ flag-eqb (suc zero) h = refl
 flag-eqb (suc (suc n)) h = absurd (omega arith)
 
 -- what is known of an item that bytes give
-pub record IsRead (behind : Bool) (bytes : List ℕ) (i : Item) : Type 0 where
+pub record IsReadItem (behind : Bool) (bytes : List ℕ) (i : Item) : Type 0 where
   pub is : bytes ≡ item_bytes i ++ drop (item_size i) bytes
   pub fits : FitsItem i
   pub merged : behind ≡ true → is_units i ≡ false
 
-seen-IsRead : (behind : Bool) (bytes : List ℕ) (i : Item) → IsBytes bytes → Seen behind bytes i → IsRead behind bytes i
-seen-IsRead behind bytes i bytes_fit (SeenUnits k b long n e) =
+seen-IsReadItem : (behind : Bool) (bytes : List ℕ) (i : Item) → IsBytes bytes → ItemAt behind bytes i
+    → IsReadItem behind bytes i
+seen-IsReadItem behind bytes i bytes_fit (SeenUnits k b long n e) =
     rw e record {
-      is = first_byte bytes 0 (omega arith) k ∙ ap (λ (t : List ℕ). 0 ∷ t) (drop-longword bytes 1 5 bytes_fit long refl);
+      is =
+          first_byte bytes 0 (omega arith) k ∙ ap (λ (t : List ℕ). 0 ∷ t) (drop-longword bytes 1 5 bytes_fit long refl);
       fits = (n, longword_at-lt 1 bytes bytes_fit);
       merged = λ h. absurd cc;
     }
-seen-IsRead behind bytes i bytes_fit (SeenTrigger k long e) =
+seen-IsReadItem behind bytes i bytes_fit (SeenTrigger k long e) =
     rw e record {
-      is = first_byte bytes 1 (omega arith) k ∙ ap (λ (t : List ℕ). 1 ∷ t) (drop-quadword bytes 1 9 bytes_fit long refl);
+      is =
+          first_byte bytes 1 (omega arith) k ∙ ap (λ (t : List ℕ). 1 ∷ t) (drop-quadword bytes 1 9 bytes_fit long refl);
       fits = quadword_at-lt 1 bytes bytes_fit;
       merged = λ h. refl;
     }
-seen-IsRead behind bytes i bytes_fit (SeenWait k long f e) =
+seen-IsReadItem behind bytes i bytes_fit (SeenWait k long f e) =
     rw e record {
       is = first_byte bytes 2 (omega arith) k
           ∙ (ap (λ (t : List ℕ). 2 ∷ t) (second_byte bytes (omega arith))
           ∙ (ap (λ (n : ℕ). 2 ∷ n ∷ drop 2 bytes) (sym (flag-eqb (get_or bytes 1 0) f))
-          ∙ ap (λ (t : List ℕ). 2 ∷ flag (eqb (get_or bytes 1 0) 1) ∷ t) (drop-quadword bytes 2 10 bytes_fit long refl)));
+          ∙ ap (λ (t : List ℕ). 2 ∷ flag (eqb (get_or bytes 1 0) 1) ∷ t)
+          (drop-quadword bytes 2 10 bytes_fit long refl)));
       fits = quadword_at-lt 2 bytes bytes_fit;
       merged = λ h. refl;
     }
-seen-IsRead behind bytes i bytes_fit (SeenReport k long e) =
+seen-IsReadItem behind bytes i bytes_fit (SeenReport k long e) =
     rw e record {
       is = first_byte bytes 3 long k;
       fits = tt;
       merged = λ h. refl;
     }
 
-pub item_in-IsRead : (behind : Bool) (bytes : List ℕ) (i : Item) → IsBytes bytes → item_in behind bytes ≡ Some i → IsRead behind bytes i
-item_in-IsRead behind bytes i fits e = seen-IsRead behind bytes i fits (seen behind bytes i e)
+pub item_in-IsReadItem : (behind : Bool) (bytes : List ℕ) (i : Item) → IsBytes bytes → item_in behind bytes ≡ Some i
+    → IsReadItem behind bytes i
+item_in-IsReadItem behind bytes i fits e = seen-IsReadItem behind bytes i fits (item_in-ItemAt behind bytes i e)
 
 pub length-item_bytes : (i : Item) → length (item_bytes i) ≡ item_size i
 unfolding quadword longword
@@ -139,7 +150,8 @@ not_zero : (n : ℕ) → 0 < n → eqb n 0 ≡ false
 not_zero n h = ne_eqb n 0 (λ e. omega arith)
 
 -- the bytes of an item that may stand there give it again
-pub item_in-item_bytes : (behind : Bool) (i : Item) (rest : List ℕ) → FitsItem i → (behind ≡ true → is_units i ≡ false) → item_in behind (item_bytes i ++ rest) ≡ Some i
+pub item_in-item_bytes : (behind : Bool) (i : Item) (rest : List ℕ) → FitsItem i → (behind ≡ true → is_units i ≡ false)
+    → item_in behind (item_bytes i ++ rest) ≡ Some i
 unfolding quadword longword
 item_in-item_bytes true (Units n) rest fits merged = let no : true ≡ false = merged refl in absurd cc
 item_in-item_bytes false (Units n) rest fits merged =

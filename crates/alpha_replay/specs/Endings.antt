@@ -1,7 +1,8 @@
 -- How the run of a journal ends: a kind and two numbers.
 use Rattle.std.specs.Prelude.{ℕ, ◌<◌, ◌^◌, ◌==◌, Bool, true, ◌&&◌, ◌||◌, if◌then◌else◌}
 use Rattle.alpha_replay.specs.declared.ending.Ending.{Ending}
-use Rattle.alpha_replay.specs.declared.ending.Ending.TheVariants.{Spent, Exit, Signal, Fetch, Access, Align, Lost, Overflow}
+use Rattle.alpha_replay.specs.declared.ending.Ending.TheVariants.{Spent, Exit, Signal, Fetch, Access, Align, Lost}
+use Rattle.alpha_replay.specs.declared.ending.Ending.TheVariants.{Overflow}
 
 abbrev pub ending_kind : Ending → ℕ
 ending_kind Spent = 0

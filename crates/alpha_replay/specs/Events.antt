@@ -1,5 +1,5 @@
--- What a journal has of a step: by the definition, and by how the code says that it went and by the memory behind it, in which
--- the bytes stand that it took and put.
+-- What a journal has of a step: by the definition, and by how the code says that it went and by the memory behind it,
+-- in which the bytes stand that it took and put.
 use Rattle.std.specs.Prelude.{ℕ, if◌then◌else◌, List, []}
 use Rattle.alpha_mem.specs.Block.{Block, shapes, within}
 use Rattle.alpha_mem.specs.Intent.{Load}
@@ -9,12 +9,12 @@ use Rattle.alpha_seq.specs.declared.end.End.TheVariants as ends
 use Rattle.alpha_seq.specs.declared.event.Event.{Event}
 use Rattle.alpha_seq.specs.declared.event.Event.TheVariants as events
 use Rattle.alpha_seq.specs.State.{Ends}
-use Rattle.alpha_imprecise.specs.Moment.{Happening, Precisely, Triggered, Waited, Reported, Lost}
+use Rattle.alpha_imprecise.specs.StepResult.{ImpreciseEvent, Precisely, Triggered, Waited, Reported, Lost}
 use Rattle.alpha_replay.specs.declared.moves.Move.{Move}
 use Rattle.alpha_replay.specs.declared.moves.Move.TheVariants.{One, Trips, Waits, Reports}
 
 -- the move that a step was; only a report stops the program at an overflow
-abbrev pub move_of : Happening → Move
+abbrev pub move_of : ImpreciseEvent → Move
 move_of (Precisely (Ends (ends.Overflow at))) = Reports
 move_of (Precisely event) = One
 move_of (Triggered value) = Trips value

@@ -1,5 +1,7 @@
 -- The items of a journal, and their bytes.
-use Rattle.std.specs.Prelude.{◌≡◌, ⊤, ℕ, zero, suc, ◌+◌, ◌<◌, ◌^◌, ◌==◌, Bool, true, false, not, ◌&&◌, nat_le, if◌then◌else◌, List, [], ◌∷◌, length, drop, slice_index, sum_by, Option, Some, None, Result, Ok, Err}
+use Rattle.std.specs.Prelude.{◌≡◌, ⊤, ℕ, zero, suc, ◌+◌, ◌<◌, ◌^◌, ◌==◌, Bool, true, false, not, ◌&&◌, nat_le}
+use Rattle.std.specs.Prelude.{if◌then◌else◌, List, [], ◌∷◌, length, drop, slice_index, sum_by, Option, Some, None}
+use Rattle.std.specs.Prelude.{Result, Ok, Err}
 use Rattle.alpha_image.specs.Layout.{quadword, longword}
 use Rattle.alpha_image.specs.Reading.{quadword_at, longword_at}
 use Rattle.alpha_replay.specs.declared.item.Item.{Item}
@@ -57,7 +59,8 @@ abbrev pub item_in : Bool → List ℕ → Option Item
 item_in behind bytes =
     if length bytes == 0 then None
     else if slice_index bytes 0 == 0 then
-    (if not behind && nat_le 5 (length bytes) && not (longword_at 1 bytes == 0) then Some (Units (longword_at 1 bytes)) else None)
+    (if not behind && nat_le 5 (length bytes) && not (longword_at 1 bytes == 0) then Some (Units (longword_at 1 bytes))
+    else None)
     else if slice_index bytes 0 == 1 then
     (if nat_le 9 (length bytes) then Some (Trigger (quadword_at 1 bytes)) else None)
     else if slice_index bytes 0 == 2 then
@@ -81,8 +84,8 @@ abbrev pub parsed_then : ℕ → (Item → Result Parsed ℕ) → Option Item �
 parsed_then n rest None = Err n
 parsed_then n rest (Some i) = onto i (rest i)
 
--- So many items from the n-th on, or the number of the first that isn't there. The test says whether they stand behind a
--- Units.
+-- So many items from the n-th on, or the number of the first that isn't there. The test says whether they stand behind
+-- a Units.
 abbrev pub parsed : ℕ → ℕ → Bool → List ℕ → Result Parsed ℕ
 parsed zero n behind bytes = Ok (record { items = []; rest = bytes })
 parsed (suc count) n behind bytes =

@@ -81,12 +81,12 @@ numbers p = record {
 }
 
 -- the 38 bytes before the input
-unfoldable pub front : Numbers → List ℕ
-front n =
+unfoldable pub header_bytes : Numbers → List ℕ
+header_bytes n =
     concat
     (magic ∷ (n.completion ∷ n.kind ∷ []) ∷ quadword n.first ∷ quadword n.second
     ∷ longword n.input ∷ longword n.output ∷ longword n.items ∷ [])
 
 -- the front, the input, the output and the items
 unfoldable pub spelling : Parts → List ℕ
-spelling p = front (numbers p) ++ (p.input ++ (p.output ++ flat_map item_bytes p.items))
+spelling p = header_bytes (numbers p) ++ (p.input ++ (p.output ++ flat_map item_bytes p.items))

@@ -1,5 +1,6 @@
 -- The first fault of bytes that spell no journal.
-use Rattle.std.specs.Prelude.{◌≡◌, ℕ, ◌-◌, ◌==◌, nat_eq, nat_le, nat_lt, List, [], ◌∷◌, length, Option, Some, None, Result, Ok, Err}
+use Rattle.std.specs.Prelude.{◌≡◌, ℕ, ◌-◌, ◌==◌, nat_eq, nat_le, nat_lt, List, [], ◌∷◌, length, Option, Some, None}
+use Rattle.std.specs.Prelude.{Result, Ok, Err}
 use Rattle.std.specs.List.{starts_with}
 use Rattle.std.specs.Option.{option_map}
 use Rattle.alpha_image.specs.FirstOf.{unless, first_of}
@@ -23,8 +24,8 @@ bad_field n =
     ∷ [])
 
 -- the fault before the items: too few bytes, another magic, a bad field, or input and output that aren't whole
-unfoldable pub front_fault : List ℕ → Option JournalFault
-front_fault bytes =
+unfoldable pub header_fault : List ℕ → Option JournalFault
+header_fault bytes =
     first_of
     (unless (nat_le 38 (length bytes)) (Short (length bytes))
     ∷ unless (starts_with nat_eq bytes magic) Magic
@@ -43,7 +44,7 @@ items_fault size (Ok p) =
 
 -- the first fault of bytes
 unfoldable pub first_fault : List ℕ → Option JournalFault
-first_fault bytes = first_of (front_fault bytes ∷ items_fault (length bytes) (items_in bytes) ∷ [])
+first_fault bytes = first_of (header_fault bytes ∷ items_fault (length bytes) (items_in bytes) ∷ [])
 
 -- A refusal is the fault. Memory runs out only where there is no fault.
 abbrev pub Refuses : JournalFault → Option JournalFault → Type 0

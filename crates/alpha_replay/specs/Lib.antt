@@ -3,7 +3,7 @@ pub mod Endings
 pub mod Journal
 pub mod Reading
 pub mod JournalFault
-pub mod Front
+pub mod JournalHeader
 pub mod Scanned
 pub mod Inside
 pub mod Moves
@@ -11,11 +11,11 @@ pub mod Listed
 pub mod Compared
 pub mod Replay
 pub mod Events
-pub mod Given
-pub mod Playing
-pub mod Gathered
+pub mod FixedChoice
+pub mod ReplayEffect
+pub mod GatheredItems
 pub mod Journaled
-pub mod Taped
+pub mod BuilderState
 pub mod Recorder
 pub mod JournalEnd
-pub mod Stands
+pub mod CursorState

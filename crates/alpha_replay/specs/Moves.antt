@@ -2,7 +2,7 @@
 use Rattle.std.specs.Prelude.{ℕ, Bool, true, false, not, ◌&&◌, Option, Some, None}
 use Rattle.alpha_table.specs.Class.{Class}
 use Rattle.alpha_seq.specs.State.{State}
-use Rattle.alpha_imprecise.specs.Moment.{Trap, Choice}
+use Rattle.alpha_imprecise.specs.StepResult.{Trap, Choice}
 use Rattle.alpha_imprecise.specs.Step.{triggers, adds_here}
 use Rattle.alpha_imprecise.specs.Chosen.{must_report, reporting, triggering}
 use Rattle.alpha_replay.specs.declared.moves.Move.{Move}
@@ -23,9 +23,9 @@ may_add o (Waits false value) = true
 may_add o (Waits true value) = adds_here o
 may_add o Reports = true
 
--- Whether the step at this word is of the move's kind. With nothing pending the word overflows or it doesn't. While a trap
--- is pending it can be reported at each word, and a word is executed where no report is forced, which it is where so many
--- words were executed since the trigger.
+-- Whether the step at this word is of the move's kind. With nothing pending the word overflows or it doesn't. While a
+-- trap is pending it can be reported at each word, and a word is executed where no report is forced, which it is where
+-- so many words were executed since the trigger.
 abbrev pub fits : Option Class → State → Option Trap → ℕ → Move → Bool
 fits o s None waited One = not (triggers o s)
 fits o s None waited (Trips value) = triggers o s
@@ -37,5 +37,5 @@ fits o s (Some t) waited (Waits adds value) = not (must_report o s waited)
 fits o s (Some t) waited Reports = true
 
 -- whether the move is possible
-abbrev pub suits : Option Class → State → Option Trap → ℕ → Move → Bool
-suits o s pending waited m = may_add o m && fits o s pending waited m
+abbrev pub move_applies : Option Class → State → Option Trap → ℕ → Move → Bool
+move_applies o s pending waited m = may_add o m && fits o s pending waited m

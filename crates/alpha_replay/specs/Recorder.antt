@@ -4,16 +4,16 @@ use Rattle.alpha_words.specs.declared.Completion.{Completion}
 use Rattle.alpha_seq.specs.declared.machine.Machine.{Machine}
 use Rattle.alpha_seq.specs.declared.event.Event.{Event}
 use Rattle.alpha_run.specs.Noted.{noted}
-use Rattle.alpha_run.specs.Ran.{Watching, watching}
+use Rattle.alpha_run.specs.RunEffect.{Watching, watching}
 use Rattle.alpha_replay.specs.declared.ending.Ending.{Ending}
 use Rattle.alpha_replay.specs.declared.ending.Ending.TheVariants.{Spent}
 use Rattle.alpha_replay.specs.declared.journal_end.JournalEnd.{JournalEnd}
 use Rattle.alpha_replay.specs.declared.journal_end.JournalEnd.TheVariants as made
 use Rattle.alpha_replay.specs.declared.recorder.Recorder.{Recorder}
-use Rattle.alpha_replay.specs.Gathered.{closed}
+use Rattle.alpha_replay.specs.GatheredItems.{closed}
 use Rattle.alpha_replay.specs.Journal.{parts}
 use Rattle.alpha_replay.specs.Replay.{ending_seen}
-use Rattle.alpha_replay.specs.Taped.{taped_by, tape_fits, tape_after, room_of}
+use Rattle.alpha_replay.specs.BuilderState.{built_by, builder_fits, builder_after, room_of}
 
 -- the lines of overflows alone
 abbrev pub lines_recorded : Recorder → Event → Machine → List ℕ
@@ -21,13 +21,13 @@ lines_recorded r event m = noted false event m
 
 -- a step that doesn't fit stops the run
 abbrev pub is_past : Recorder → Event → Machine → Bool
-is_past r event m = not (tape_fits (taped_by r.tape event m))
+is_past r event m = not (builder_fits (built_by r.builder event m))
 
 abbrev pub recorded_after : Recorder → Event → Machine → Recorder
-recorded_after r event m = record { tape = tape_after r.tape event m; full = r.full || is_past r event m }
+recorded_after r event m = record { builder = builder_after r.builder event m; full = r.full || is_past r event m }
 
 abbrev pub room_left : Recorder → ℕ
-room_left r = room_of r.tape
+room_left r = room_of r.builder
 
 abbrev pub recording : Watching Recorder
 recording = watching recorded_after lines_recorded is_past
@@ -41,6 +41,6 @@ last_ending (Some event) = ending_seen event
 
 -- what was made of a run, by its last step
 abbrev pub outcome : Option Event → Completion → Recorder → JournalEnd
-outcome last how r =
+outcome last completion r =
     if r.full then made.Full
-    else made.Made last (parts how (last_ending last) r.tape.taken r.tape.put (closed r.tape.gathered))
+    else made.Made last (parts completion (last_ending last) r.builder.taken r.builder.put (closed r.builder.gathered))

@@ -1,5 +1,6 @@
 -- What the replay of a journal answers.
-use Rattle.std.specs.Prelude.{◌≡◌, ⊤, ℕ, ◌==◌, Bool, false, ◌&&◌, ◌||◌, List, [], ◌∷◌, length, sum_by, Option, Some, None, is_none, Result, Ok, Err}
+use Rattle.std.specs.Prelude.{◌≡◌, ⊤, ℕ, ◌==◌, Bool, false, ◌&&◌, ◌||◌, List, [], ◌∷◌, length, sum_by, Option, Some}
+use Rattle.std.specs.Prelude.{None, is_none, Result, Ok, Err}
 use Rattle.std.specs.Option.{option_map}
 use Rattle.alpha_image.specs.Parts.{Parts as Image}
 use Rattle.alpha_image.specs.FirstOf.{unless, first_of}
@@ -7,12 +8,12 @@ use Rattle.alpha_seq.specs.declared.end.End.{End}
 use Rattle.alpha_seq.specs.declared.end.End.TheVariants as ends
 use Rattle.alpha_seq.specs.State.{Program, Ends}
 use Rattle.alpha_seq.specs.Start.{start}
-use Rattle.alpha_seq.specs.declared.event.Event.{Event as Seen}
+use Rattle.alpha_seq.specs.declared.event.Event.{Event as SeenEvent}
 use Rattle.alpha_seq.specs.declared.event.Event.TheVariants as events
-use Rattle.alpha_seq.specs.Print.{is_over}
+use Rattle.alpha_seq.specs.StepLabel.{is_over}
 use Rattle.alpha_seq.specs.Run.{output, sequential}
-use Rattle.alpha_imprecise.specs.Moment.{Happening, Precisely, Lost}
-use Rattle.alpha_imprecise.specs.Run.{seen, finished, WildRun, RunsOver}
+use Rattle.alpha_imprecise.specs.StepResult.{ImpreciseEvent, Precisely, Lost}
+use Rattle.alpha_imprecise.specs.Run.{seen, finished, ImpreciseRun, RunsOver}
 use Rattle.alpha_imprecise.specs.Used.{HasUsed}
 use Rattle.alpha_replay.specs.declared.ending.Ending.{Ending}
 use Rattle.alpha_replay.specs.declared.ending.Ending.TheVariants as endings
@@ -37,13 +38,13 @@ ending_by (ends.Align pc addr) = endings.Align pc addr
 ending_by (ends.Overflow pc) = endings.Overflow pc
 
 -- by how the last step went
-abbrev pub ending_of : Happening → Ending
+abbrev pub ending_of : ImpreciseEvent → Ending
 ending_of (Precisely (Ends end)) = ending_by end
 ending_of (Lost pc mask) = endings.Lost pc mask
 ending_of happened = endings.Spent
 
 -- by how the code says that it went
-abbrev pub ending_seen : Seen → Ending
+abbrev pub ending_seen : SeenEvent → Ending
 ending_seen (events.Ended end) = ending_by end
 ending_seen (events.Lost pc mask) = endings.Lost pc mask
 ending_seen event = endings.Spent
@@ -53,11 +54,11 @@ same_ending a b =
     ending_kind a == ending_kind b && ending_first a == ending_first b && ending_second a == ending_second b
 
 -- The run ends so. One that doesn't end has nothing pending.
-abbrev pub ends_as : Ending → WildRun → Bool
-ends_as e w = same_ending e (ending_of w.at.happened) && (finished w.at.happened || is_none w.at.pending)
+abbrev pub ends_as : Ending → ImpreciseRun → Bool
+ends_as e w = same_ending e (ending_of w.at.last_event) && (finished w.at.last_event || is_none w.at.pending)
 
 -- by how the code says that the last step went, and whether nothing is pending
-abbrev pub ends_seen : Ending → Seen → Bool → Bool
+abbrev pub ends_seen : Ending → SeenEvent → Bool → Bool
 ends_seen e event calm = same_ending e (ending_seen event) && (is_over event || calm)
 
 -- ---- the answer
@@ -74,10 +75,10 @@ reports_of all = sum_by item_reports all
 
 -- the program of a journal on an image
 abbrev pub program_by : Image → Parts → Program
-program_by image p = record { image = image; how = p.completion }
+program_by image p = record { image = image; completion = p.completion }
 
 -- The first fault of a journal whose items lead to this run: another output, another end, or input that wasn't taken.
-abbrev pub run_fault : Parts → WildRun → Option ReplayFault
+abbrev pub run_fault : Parts → ImpreciseRun → Option ReplayFault
 run_fault p w =
     first_of
     (option_map faults.Output (first_difference 0 (output (seen w.steps)) p.output)
@@ -104,12 +105,12 @@ Replays result answer = result ≡ answer
 
 -- ---- what such an answer means
 
--- A row of imprecise steps of the image from the start, over the journal's input, that takes all of it, puts its output,
--- ends as it says, and uses so many units. Where it doesn't end nothing is pending.
+-- A row of imprecise steps of the image from the start, over the journal's input, that takes all of it, puts its
+-- output, ends as it says, and uses so many units. Where it doesn't end nothing is pending.
 pub record IsRun (image : Image) (p : Parts) (units : ℕ) : Type 0 where
-  pub run : WildRun
+  pub run : ImpreciseRun
   pub over : RunsOver (program_by image p) (start (program_by image p)) p.input run
-  pub ends : ending_of run.at.happened ≡ p.ending
+  pub ends : ending_of run.at.last_event ≡ p.ending
   pub used : HasUsed units run.units run.at
   pub units_are : run.units ≡ units
   pub puts : output (seen run.steps) ≡ p.output

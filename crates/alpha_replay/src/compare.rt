@@ -5,23 +5,23 @@ ghost use Rattle.alpha_replay.specs.Compared.{Sees, first_difference};
 
 /// What was seen of an output so far.
 #[derive(Clone, Copy, Debug, PartialEq, Eq)]
-pub(crate) struct Seen {
+pub(crate) struct Compared {
     /// How many bytes are as expected, from the front.
     pub(crate) at: usize,
     /// Whether it has another byte behind them, or one more than is expected.
     pub(crate) differs: bool,
 }
 
-impl Seen {
+impl Compared {
     /// Of no output.
-    pub(crate) const NOTHING: Seen = Seen {
+    pub(crate) const NOTHING: Compared = Compared {
         at: 0,
         differs: false,
     };
 
     /// What is seen with these bytes more.
     #[inline(always)]
-    pub(crate) fn with(self, bytes: &[u8], expected: &[u8]) -> Seen
+    pub(crate) fn with(self, bytes: &[u8], expected: &[u8]) -> Compared
         requires { self.at ≤ length expected.now }
         ensures sees { (output : List ℕ) → Sees expected.now self output
             → Sees expected.now result (output ++ bytes.now) }
@@ -33,8 +33,8 @@ impl Seen {
         if self.differs {
             return self;
         }
-        let more = same_front(bytes, &expected[self.at..]);
-        Seen {
+        let more = same_prefix(bytes, &expected[self.at..]);
+        Compared {
             at: self.at + more,
             differs: more < bytes.len(),
         }
@@ -57,7 +57,7 @@ impl Seen {
 }
 
 // How many bytes of two lists are the same, from the front.
-fn same_front(bytes: &[u8], expected: &[u8]) -> usize
+fn same_prefix(bytes: &[u8], expected: &[u8]) -> usize
     ensures bytes { result ≤ length bytes.now }
     ensures expected { result ≤ length expected.now }
     ensures same { (n : ℕ) (more : List ℕ) → first_difference n (bytes.now ++ more) expected.now

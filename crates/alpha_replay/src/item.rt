@@ -26,11 +26,11 @@ pub enum Item {
 impl Item {
     /// The item that the bytes begin with, `None` where it isn't whole or is bad. `behind` says that it
     /// stands behind a Units.
-    pub(crate) fn read(behind: bool, bytes: &[u8]) -> Option<Item>
-        ensures value { result ≡ item_in behind bytes.now }
+    pub(crate) fn read(after_units: bool, bytes: &[u8]) -> Option<Item>
+        ensures value { result ≡ item_in after_units bytes.now }
     {
         match *bytes.first()? {
-            0 if !behind && 5 <= bytes.len() => {
+            0 if !after_units && 5 <= bytes.len() => {
                 let units = longword_at(bytes, 1);
                 if units == 0 {
                     None

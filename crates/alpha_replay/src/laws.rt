@@ -1,7 +1,7 @@
 //! What holds of journals and bytes, whatever is read or written. The functions do nothing.
 
 ghost use Rattle.std.specs.Prelude.{◌≡◌, ◌≤◌, ◌++◌, ◌↔◌, ℕ, List, true, Some, None, Ok, All};
-ghost use Rattle.alpha_io.specs.Sunk.{Sunk};
+ghost use Rattle.alpha_io.specs.SinkChange.{SinkChange};
 ghost use Rattle.alpha_image.specs.Parts.{IsByte, Parts as Image};
 ghost use Rattle.alpha_seq.specs.Devices.{Drawn};
 ghost use Rattle.alpha_seq.specs.Run.{taken};
@@ -9,10 +9,10 @@ ghost use Rattle.alpha_seq.specs.Start.{start};
 ghost use Rattle.alpha_seq.specs.State.{Program, State};
 ghost use Rattle.alpha_words.specs.declared.Completion.{Completion};
 ghost use Rattle.alpha_imprecise.specs.Restart.{IsRestartable};
-ghost use Rattle.alpha_imprecise.specs.Moment.{Happening};
+ghost use Rattle.alpha_imprecise.specs.StepResult.{ImpreciseEvent};
 ghost use Rattle.alpha_imprecise.specs.Run.{RunsOver, seen};
-ghost use Rattle.alpha_imprecise.specs.Telling.{Telling};
-ghost use Rattle.alpha_imprecise.specs.Wild.{WildState};
+ghost use Rattle.alpha_imprecise.specs.Oracle.{Oracle};
+ghost use Rattle.alpha_imprecise.specs.ImpreciseState.{ImpreciseState};
 ghost use Rattle.alpha_replay.specs.declared.item.Item.{Item};
 ghost use Rattle.alpha_replay.specs.declared.replaying.Replayed.{Replayed};
 ghost use Rattle.alpha_replay.specs.Items.{units_of};
@@ -21,10 +21,10 @@ ghost use Rattle.alpha_replay.specs.Replay.{reports_of, replayed, IsRun, IsSeque
 ghost use Rattle.alpha_replay.specs.Journal.{Parts, IsJournal, spelling};
 ghost use Rattle.alpha_replay.specs.Reading.{parts_of};
 ghost use Rattle.alpha_replay.specs.JournalFault.{first_fault};
-ghost use Rattle.alpha_replay.specs.Gathered.{items_of};
+ghost use Rattle.alpha_replay.specs.GatheredItems.{items_of};
 ghost use Rattle.alpha_replay.specs.Journaled.{journal_at, is_within, IsJournaled};
-ghost use Rattle.alpha_replay.specs.JournalEnd.{Stops, IsJournaledAt};
-ghost use Rattle.alpha_imprecise.specs.Made.{Making, begun, steps_making, most_words};
+ghost use Rattle.alpha_replay.specs.JournalEnd.{JournalStops, IsJournaledAt};
+ghost use Rattle.alpha_imprecise.specs.ChosenRun.{ChosenRun, begun, steps_of_chosen_run, most_words};
 
 /// Bytes have no first fault exactly where they are the spelling of a good journal, and then they are the
 /// spelling of one journal alone.
@@ -66,31 +66,31 @@ pub fn laws_of_replays()
 /// behind them: with the same steps, which took a front of the input.
 pub fn laws_of_journaled_runs()
     ensures some { (n : ℕ) (g : Program) (s : State) (input words : List ℕ)
-        → (k : Making) × IsJournaled n g (begun s input None 0 words) k }
-    ensures few { (n : ℕ) (g : Program) (s : State) (input words : List ℕ) (k : Making)
+        → (k : ChosenRun) × IsJournaled n g (begun s input None 0 words) k }
+    ensures few { (n : ℕ) (g : Program) (s : State) (input words : List ℕ) (k : ChosenRun)
         → IsJournaled n g (begun s input None 0 words) k
         → (k.run.units ≤ n) × (k.count ≤ most_words n) }
-    ensures one { (n : ℕ) (g : Program) (from k l : Making)
+    ensures one { (n : ℕ) (g : Program) (from k l : ChosenRun)
         → IsJournaled n g from k → IsJournaled n g from l → k ≡ l }
-    ensures runs { (n : ℕ) (g : Program) (from k : Making) → IsJournaled n g from k
-        → (steps : ℕ) × (k ≡ steps_making g from steps) }
-    ensures listed { (n : ℕ) (g : Program) (input words : List ℕ) (k : Making)
+    ensures runs { (n : ℕ) (g : Program) (from k : ChosenRun) → IsJournaled n g from k
+        → (steps : ℕ) × (k ≡ steps_of_chosen_run g from steps) }
+    ensures listed { (n : ℕ) (g : Program) (input words : List ℕ) (k : ChosenRun)
         → IsJournaled n g (begun (start g) input None 0 words) k
         → listed g input (items_of k.run.steps) ≡ Ok (record { run = k.run; waited = k.waited }) }
     ensures taken { (n : ℕ) (g : Program) (items : List Item) (p q : Played) (front rest : List ℕ)
         → listed_from g n items p ≡ Ok q → q.run.left ≡ front ++ rest
         → (fed : List ℕ) × (p.run.left ≡ fed ++ rest)
         × (listed_from g n items (played_over fed p) ≡ Ok (played_over front q)) }
-    ensures replayed { (n : ℕ) (image : Image) (how : Completion) (input words : List ℕ)
-        (k : Making)
-        → let g : Program = record { image = image; how = how } in
+    ensures replayed { (n : ℕ) (image : Image) (completion : Completion) (input words : List ℕ)
+        (k : ChosenRun)
+        → let g : Program = record { image = image; completion = completion } in
         IsJournaled n g (begun (start g) input None 0 words) k
-        → is_within (journal_at how k) ≡ true
-        → replayed image (journal_at how k)
+        → is_within (journal_at completion k) ≡ true
+        → replayed image (journal_at completion k)
         ≡ Ok (record { units = k.run.units; reports = reports_of (items_of k.run.steps) }) }
-    ensures told { (n : ℕ) (last : Happening) (old new : WildState) (before after : Telling)
-        (input : Drawn) (out sink : Sunk) (s : Stops n last old new before after input out sink)
+    ensures told { (n : ℕ) (last : ImpreciseEvent) (old new : ImpreciseState) (before after : Oracle)
+        (input : Drawn) (out sink : SinkChange) (s : JournalStops n last old new before after input out sink)
         (bytes coming : List ℕ) → input.old.left ≡ Some bytes
-        → (k : Making) × IsJournaledAt n old bytes (s.ran.words ++ coming) k
+        → (k : ChosenRun) × IsJournaledAt n old bytes (s.ran.words ++ coming) k
         × (k.run.steps ≡ s.ran.steps) × (bytes ≡ taken (seen k.run.steps) ++ k.run.left) }
 {}

@@ -1,20 +1,20 @@
 //! A run of the imprecise machine, with its journal.
 
 ghost use Rattle.std.specs.Prelude.{◌≡◌, ℕ, List, None, Some, false, IfOk, IfErr};
-ghost use Rattle.alpha_io.specs.Sunk.{sunk};
+ghost use Rattle.alpha_io.specs.SinkChange.{sink_change};
 ghost use Rattle.alpha_seq.specs.Devices.{drawn};
 ghost use Rattle.alpha_seq.specs.Machine.{Stays, program_of};
 ghost use Rattle.alpha_imprecise.specs.Restart.{NeverLoses};
-ghost use Rattle.alpha_imprecise.specs.Telling.{telling};
-ghost use Rattle.alpha_imprecise.specs.Wild.{IsFresh};
-ghost use Rattle.alpha_imprecise.specs.WildEffect.{WildGoes, WildLeaves, wild_uses};
-ghost use Rattle.alpha_run.specs.Ran.{IsCut, RunsTo};
+ghost use Rattle.alpha_imprecise.specs.Oracle.{oracle_of};
+ghost use Rattle.alpha_imprecise.specs.ImpreciseState.{IsFresh};
+ghost use Rattle.alpha_imprecise.specs.ImpreciseStepEffect.{ImpreciseStep, ImpreciseStateAfterFault, imprecise_units};
+ghost use Rattle.alpha_run.specs.RunEffect.{IsPrefixRun, RunsTo};
 ghost use Rattle.alpha_replay.specs.Endings.{FitsEnding};
 ghost use Rattle.alpha_replay.specs.JournalEnd.{JournalLosesNone, JournalTold, MakesJournal};
 ghost use Rattle.alpha_replay.specs.Recorder.{last_ending, outcome, recording};
 
+use crate::journal_builder::JournalBuilder;
 use crate::recorder::Recorder;
-use crate::tape::Tape;
 use crate::{Ending, JournalEnd};
 use alpha_imprecise::{Chooser, Wild};
 use alpha_io::{Sink, Source};
@@ -28,8 +28,10 @@ use std::alloc::Global;
 /// past one of the four limits of a journal, before its end is looked at; a device's fault in the same step comes
 /// before it. All memory is taken before the first step.
 ///
-/// From a machine at the start and with nothing pending the items list the run, as [`crate::laws_of_journaled_runs`] says.
-/// Over a source that tells nothing too its journal has the moves, the bytes taken and the bytes put of just the steps that
+/// From a machine at the start and with nothing pending the items list the run, as [`crate::laws_of_journaled_runs`]
+/// says.
+/// Over a source that tells nothing too its journal has the moves, the bytes taken and the bytes put of just the steps
+/// that
 /// were made.
 pub fn make_journal<C: Chooser, S: Source, K: Sink, N: Sink>(
     alloc: Global,
@@ -41,32 +43,36 @@ pub fn make_journal<C: Chooser, S: Source, K: Sink, N: Sink>(
     units: u64,
 ) -> JournalEnd
     ensures made { MakesJournal result units wild.old wild.new
-        (telling C.ahead C.drawn chooser.old) (telling C.ahead C.drawn chooser.new)
+        (oracle_of C.ahead C.drawn chooser.old) (oracle_of C.ahead C.drawn chooser.new)
         (drawn S.Source input.old input.new)
-        (sunk K.Sink out.old out.new)
-        (sunk N.Sink notes.old notes.new) }
+        (sink_change K.Sink out.old out.new)
+        (sink_change N.Sink notes.old notes.new) }
     ensures told { (bytes : List ℕ) (ahead : ℕ → ℕ) → S.left input.old ≡ Some bytes
         → C.ahead chooser.old ≡ Some ahead → IsFresh wild.old
         → JournalTold result units bytes ahead (program_of wild.old.machine)
         (drawn S.Source input.old input.new)
-        (sunk K.Sink out.old out.new)
-        (sunk N.Sink notes.old notes.new) }
+        (sink_change K.Sink out.old out.new)
+        (sink_change N.Sink notes.old notes.new) }
     ensures found { wild.old.pending ≡ None → NeverLoses wild.old.machine.image
         → JournalLosesNone result }
     ensures same { Stays wild.old.machine wild.new.machine }
 {
-    let Ok(tape) = Tape::new(alloc) else {
+    let Ok(tape) = JournalBuilder::new(alloc) else {
         return JournalEnd::NoMemory;
     };
-    let completion = wild.machine().how;
-    let mut recorder = Recorder { tape, full: false };
+    let completion = wild.machine().completion;
+    let mut recorder = Recorder {
+        builder: tape,
+        full: false,
+    };
     match run_recorded(&mut recorder, wild, chooser, input, out, notes, units) {
         Ok(last) => outcome(recorder, completion, last),
         Err(fault) => JournalEnd::Failed(fault),
     }
 }
 
-// Makes the run, and notes it, until it is over, a device fails or the tape is full. It is never inlined, so that the loop
+// Makes the run, and notes it, until it is over, a device fails or the tape is full. It is never inlined, so that the
+// loop
 // of the run is compiled by itself.
 #[inline(never)]
 fn run_recorded<C: Chooser, S: Source, K: Sink, N: Sink>(
@@ -78,18 +84,19 @@ fn run_recorded<C: Chooser, S: Source, K: Sink, N: Sink>(
     notes: &mut N,
     units: u64,
 ) -> Result<Option<Event>, Fault>
-    ensures made { IfOk result (λ last. (left : ℕ) × RunsTo last WildGoes wild_uses recording units left
+    ensures made { IfOk result (λ last. (left : ℕ) × RunsTo last ImpreciseStep imprecise_units recording units left
         wild.old wild.new recorder.old recorder.new
-        (telling C.ahead C.drawn chooser.old) (telling C.ahead C.drawn chooser.new)
+        (oracle_of C.ahead C.drawn chooser.old) (oracle_of C.ahead C.drawn chooser.new)
         (drawn S.Source input.old input.new)
-        (sunk K.Sink out.old out.new)
-        (sunk N.Sink notes.old notes.new)) }
-    ensures broken { IfErr result (λ fault. (left : ℕ) × IsCut fault WildGoes WildLeaves recording units left
+        (sink_change K.Sink out.old out.new)
+        (sink_change N.Sink notes.old notes.new)) }
+    ensures broken { IfErr result (λ fault. (left : ℕ)
+        × IsPrefixRun fault ImpreciseStep ImpreciseStateAfterFault recording units left
         wild.old wild.new recorder.old
-        (telling C.ahead C.drawn chooser.old) (telling C.ahead C.drawn chooser.new)
+        (oracle_of C.ahead C.drawn chooser.old) (oracle_of C.ahead C.drawn chooser.new)
         (drawn S.Source input.old input.new)
-        (sunk K.Sink out.old out.new)
-        (sunk N.Sink notes.old notes.new)) }
+        (sink_change K.Sink out.old out.new)
+        (sink_change N.Sink notes.old notes.new)) }
     ensures same { Stays wild.old.machine wild.new.machine }
 {
     let mut left = units;
@@ -104,7 +111,7 @@ fn outcome(recorder: Recorder, completion: Completion, last: Option<Event>) -> J
         return JournalEnd::Full;
     }
     let ending = ending_of(&last);
-    JournalEnd::Made(last, recorder.tape.journal(completion, ending))
+    JournalEnd::Made(last, recorder.builder.journal(completion, ending))
 }
 
 // The ending that a journal has of a run with this last step.

@@ -1,15 +1,15 @@
 //! The items of a journal, played on the machine.
 
 ghost use Rattle.std.specs.Prelude.{◌≡◌, ◌≤◌, true, length, IfSome, IfNone, IfOk, IfErr};
-ghost use Rattle.alpha_imprecise.specs.WildRushed.{WildRushed};
-ghost use Rattle.alpha_seq.specs.Print.{is_over};
+ghost use Rattle.alpha_imprecise.specs.ImpreciseFastSteps.{ImpreciseFastSteps};
+ghost use Rattle.alpha_seq.specs.StepLabel.{is_over};
 ghost use Rattle.alpha_replay.specs.Journal.{most_items};
 ghost use Rattle.alpha_replay.specs.Listed.{move as moved, units as units_made, item as item_made};
-ghost use Rattle.alpha_replay.specs.Playing.{Did, Fails, Moved, Plays, StopsAt, first_stand, place};
-ghost use Rattle.alpha_replay.specs.Stands.{stand_after};
+ghost use Rattle.alpha_replay.specs.ReplayEffect.{ReplayEffect, Fails, Moved, Plays, StopsAt, first_cursor, place};
+ghost use Rattle.alpha_replay.specs.CursorState.{cursor_after};
 
-use crate::compare::Seen;
-use crate::given::Given;
+use crate::compare::Compared;
+use crate::fixed_choice::FixedChoice;
 use crate::passed::bytes_put;
 use crate::{Item, Move};
 use alpha_imprecise::Wild;
@@ -18,18 +18,18 @@ use alpha_seq::Event;
 
 /// How the last step went, and what was seen of the output.
 #[derive(Clone, Copy, Debug)]
-pub(crate) struct Stand {
+pub(crate) struct Cursor {
     /// How the last step went.
     pub(crate) last: Event,
     /// What was seen of the output.
-    pub(crate) seen: Seen,
+    pub(crate) seen: Compared,
 }
 
-impl Stand {
+impl Cursor {
     /// Before the first step.
-    pub(crate) const START: Stand = Stand {
+    pub(crate) const START: Cursor = Cursor {
         last: Event::Went,
-        seen: Seen::NOTHING,
+        seen: Compared::NOTHING,
     };
 }
 
@@ -38,7 +38,7 @@ impl Stand {
 fn step(wild: &mut Wild, input: &mut SureSource, m: &Move) -> Event
     ensures { Moved m.now result wild.old wild.new input.old.left input.new.left }
 {
-    match wild.step_by(&mut Given { step: *m }, input, &mut NullSink::new()) {
+    match wild.step_by(&mut FixedChoice { step: *m }, input, &mut NullSink::new()) {
         Ok(event) => event,
         Err(_) => unreachable!(),
     }
@@ -50,11 +50,11 @@ fn make(
     wild: &mut Wild,
     input: &mut SureSource,
     expected: &[u8],
-    from: &Stand,
+    from: &Cursor,
     m: &Move,
-) -> Option<Stand>
+) -> Option<Cursor>
     requires { from.now.seen.at ≤ length expected.now }
-    ensures made { IfSome result (λ to. Did expected.now (λ g p. moved g p m.now)
+    ensures made { IfSome result (λ to. ReplayEffect expected.now (λ g p. moved g p m.now)
         (place wild.old input.old.left from.now) (place wild.new input.new.left to)) }
     ensures bound { IfSome result (λ to. to.seen.at ≤ length expected.now) }
     ensures refused { IfNone result (Fails (λ g p. moved g p m.now)
@@ -68,7 +68,7 @@ fn make(
         return None;
     }
     let seen = from.seen.with(bytes_put(&last, wild.machine()), expected);
-    Some(Stand { last, seen })
+    Some(Cursor { last, seen })
 }
 
 // Makes so many steps with nothing pending that don't overflow, `None` where one of them is impossible.
@@ -76,25 +76,25 @@ fn make_units(
     wild: &mut Wild,
     input: &mut SureSource,
     expected: &[u8],
-    from: &Stand,
+    from: &Cursor,
     units: u32,
-) -> Option<Stand>
+) -> Option<Cursor>
     requires { from.now.seen.at ≤ length expected.now }
-    ensures made { IfSome result (λ to. Did expected.now (λ g p. units_made g units p)
+    ensures made { IfSome result (λ to. ReplayEffect expected.now (λ g p. units_made g units p)
         (place wild.old input.old.left from.now) (place wild.new input.new.left to)) }
     ensures bound { IfSome result (λ to. to.seen.at ≤ length expected.now) }
     ensures refused { IfNone result (Fails (λ g p. units_made g units p)
         (place wild.old input.old.left from.now)) }
 {
     let mut stand = *from;
-    let mut left = units - rush(wild, &mut stand, units);
+    let mut left = units - run_fast(wild, &mut stand, units);
     'moves: while left != 0 {
         match make(wild, input, expected, &stand, &Move::One) {
             Some(to) => stand = to,
             None => return None,
         }
         left -= 1;
-        left -= rush(wild, &mut stand, left);
+        left -= run_fast(wild, &mut stand, left);
     }
     Some(stand)
 }
@@ -102,18 +102,18 @@ fn make_units(
 // Makes such steps as long as each only goes on, so many at most, and answers how many it made. They put nothing.
 // It may stop early: what the next step does is what `make` says.
 #[inline(always)]
-fn rush(wild: &mut Wild, stand: &mut Stand, units: u32) -> u32
+fn run_fast(wild: &mut Wild, cursor: &mut Cursor, units: u32) -> u32
     ensures most { result ≤ units }
-    ensures went { WildRushed result wild.old wild.new }
-    ensures stand { stand.new ≡ stand_after stand.old result }
-    ensures over { is_over stand.old.last ≡ true → result ≡ 0 }
+    ensures went { ImpreciseFastSteps result wild.old wild.new }
+    ensures stand { cursor.new ≡ cursor_after cursor.old result }
+    ensures over { is_over cursor.old.last ≡ true → result ≡ 0 }
 {
-    if stand.last.is_over() {
+    if cursor.last.is_over() {
         return 0;
     }
-    let made = wild.rush(u64::from(units)) as u32;
+    let made = wild.run_fast(u64::from(units)) as u32;
     if made != 0 {
-        stand.last = Event::Went;
+        cursor.last = Event::Went;
     }
     made
 }
@@ -123,11 +123,11 @@ fn play_item(
     wild: &mut Wild,
     input: &mut SureSource,
     expected: &[u8],
-    from: &Stand,
+    from: &Cursor,
     item: &Item,
-) -> Option<Stand>
+) -> Option<Cursor>
     requires { from.now.seen.at ≤ length expected.now }
-    ensures made { IfSome result (λ to. Did expected.now (λ g p. item_made g item.now p)
+    ensures made { IfSome result (λ to. ReplayEffect expected.now (λ g p. item_made g item.now p)
         (place wild.old input.old.left from.now) (place wild.new input.new.left to)) }
     ensures bound { IfSome result (λ to. to.seen.at ≤ length expected.now) }
     ensures refused { IfNone result (Fails (λ g p. item_made g item.now p)
@@ -149,15 +149,15 @@ pub(crate) fn play_items(
     input: &mut SureSource,
     expected: &[u8],
     items: &[Item],
-) -> Result<Stand, u32>
+) -> Result<Cursor, u32>
     requires { length items.now ≤ most_items }
     ensures played { IfOk result (λ to. Plays expected.now items.now (length items.now)
-        (place wild.old input.old.left first_stand) (place wild.new input.new.left to)) }
+        (place wild.old input.old.left first_cursor) (place wild.new input.new.left to)) }
     ensures bound { IfOk result (λ to. to.seen.at ≤ length expected.now) }
     ensures refused { IfErr result (λ n. StopsAt items.now n
-        (place wild.old input.old.left first_stand)) }
+        (place wild.old input.old.left first_cursor)) }
 {
-    let mut stand = Stand::START;
+    let mut stand = Cursor::START;
     let mut n = 0;
     for item in items {
         match play_item(wild, input, expected, &stand, item) {

@@ -1,6 +1,6 @@
 //! What looks at the steps of a run that gets a journal.
 
-use crate::tape::Tape;
+use crate::journal_builder::JournalBuilder;
 use alpha_io::{Failed, Sink};
 use alpha_run::{Notes, Observer};
 use alpha_seq::{Event, Machine};
@@ -10,7 +10,7 @@ use alpha_seq::{Event, Machine};
 #[derive(Debug, Drop)]
 pub(crate) struct Recorder {
     /// What is gathered of the run.
-    pub tape: Tape,
+    pub builder: JournalBuilder,
     /// Whether a step didn't fit.
     pub full: bool,
 }
@@ -28,12 +28,12 @@ impl Observer for Recorder {
 
     #[inline(always)]
     fn room(&self) -> u64 {
-        self.tape.room()
+        self.builder.room()
     }
 
     #[inline(always)]
     fn pass(&mut self, count: u64) {
-        self.tape.note_ones(count);
+        self.builder.note_ones(count);
     }
 
     #[inline(always)]
@@ -44,7 +44,7 @@ impl Observer for Recorder {
         notes: &mut N,
     ) -> Result<bool, Failed> {
         Notes { watch: false }.see(event, machine, notes)?;
-        let fits = self.tape.note_step(event, machine);
+        let fits = self.builder.note_step(event, machine);
         if !fits {
             self.full = true;
         }

@@ -3,13 +3,14 @@
 ghost use Rattle.std.specs.Prelude.{◌≡◌, ◌≤◌, length, is_none, IfOk, IfErr};
 ghost use Rattle.alpha_image.specs.Parts.{Parts as Image};
 ghost use Rattle.alpha_words.specs.declared.Completion.{Completion};
-ghost use Rattle.alpha_imprecise.specs.Wild.{trap_in, IsFresh};
+ghost use Rattle.alpha_imprecise.specs.ImpreciseState.{trap_in, IsFresh};
 ghost use Rattle.alpha_seq.specs.Machine.{program_of};
 ghost use Rattle.alpha_replay.specs.Endings.{FitsEnding};
 ghost use Rattle.alpha_replay.specs.Items.{units_of};
 ghost use Rattle.alpha_replay.specs.Journal.{most_items, parts};
-ghost use Rattle.alpha_replay.specs.Playing.{Begins};
-ghost use Rattle.alpha_replay.specs.Replay.{ending_by, ending_seen, same_ending, ends_seen, item_reports, reports_of, replayed, Replays};
+ghost use Rattle.alpha_replay.specs.ReplayEffect.{Begins};
+ghost use Rattle.alpha_replay.specs.Replay.{ending_by, ending_seen, same_ending, ends_seen, item_reports, reports_of};
+ghost use Rattle.alpha_replay.specs.Replay.{replayed, Replays};
 
 use crate::play::play_items;
 use crate::{Ending, Item, Journal, ReplayFault};
@@ -88,15 +89,15 @@ impl Ending {
 }
 
 // Whether a run ends so, by its last step and by whether nothing is pending.
-fn ends_as(ending: &Ending, last: &Event, calm: bool) -> bool
-    ensures { result ≡ ends_seen ending.now last.now calm }
+fn ends_as(ending: &Ending, last: &Event, no_pending: bool) -> bool
+    ensures { result ≡ ends_seen ending.now last.now no_pending }
 {
-    let settled = last.is_over() || calm;
+    let settled = last.is_over() || no_pending;
     ending.is_same(&Ending::of_event(last)) && settled
 }
 
 // Whether nothing is pending.
-fn is_calm(wild: &Wild) -> bool
+fn has_no_pending(wild: &Wild) -> bool
     ensures { result ≡ is_none (trap_in wild.now.pending) }
 {
     wild.pending().is_none()
@@ -140,13 +141,13 @@ fn reports_of(items: &[Item]) -> u64
 }
 
 // The machine at the start of the image's program.
-fn fresh(alloc: Global, image: Image, how: Completion) -> Result<Wild, ReplayFault>
+fn fresh(alloc: Global, image: Image, completion: Completion) -> Result<Wild, ReplayFault>
     ensures fresh { IfOk result IsFresh }
     ensures program { IfOk result (λ wild. program_of wild.machine
-        ≡ record { image = image; how = how }) }
+        ≡ record { image = image; completion = completion }) }
     ensures memory { IfErr result (λ e. e ≡ ReplayFault.NoMemory) }
 {
-    match Machine::new(alloc, image, how) {
+    match Machine::new(alloc, image, completion) {
         Ok(machine) => {
             let wild = Wild::new(machine);
             Ok(wild)
@@ -164,9 +165,9 @@ fn play_all(
     ending: &Ending,
 ) -> Result<Replayed, ReplayFault>
     requires few_items { length items.now ≤ most_items }
-    ensures { (image : Image) (how : Completion)
-        → Begins (record { image = image; how = how }) wild.old
-        → result ≡ replayed image (parts how ending.now input.old.left output.now items.now) }
+    ensures { (image : Image) (completion : Completion)
+        → Begins (record { image = image; completion = completion }) wild.old
+        → result ≡ replayed image (parts completion ending.now input.old.left output.now items.now) }
 {
     let stand = match play_items(wild, input, output, items) {
         Ok(stand) => stand,
@@ -175,7 +176,7 @@ fn play_all(
     if let Some(at) = stand.seen.difference(output) {
         return Err(ReplayFault::Output(at));
     }
-    if !ends_as(ending, &stand.last, is_calm(wild)) {
+    if !ends_as(ending, &stand.last, has_no_pending(wild)) {
         return Err(ReplayFault::End);
     }
     let left = input.rest().len();

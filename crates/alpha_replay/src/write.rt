@@ -3,9 +3,9 @@
 ghost use Rattle.std.specs.Prelude.{◌≡◌, ◌≤◌, ◌*◌, ◌++◌, length, OnOk, IfOk};
 ghost use Rattle.std.specs.List.{flat_map};
 ghost use Rattle.alpha_replay.specs.Items.{item_bytes};
-ghost use Rattle.alpha_replay.specs.Journal.{IsJournal, completion_number, numbers, front, spelling, most_items};
+ghost use Rattle.alpha_replay.specs.Journal.{IsJournal, completion_number, numbers, header_bytes, spelling, most_items};
 
-use crate::front::{FRONT_BYTES, MAGIC};
+use crate::journal_header::{FRONT_BYTES, MAGIC};
 use crate::{Item, Journal};
 use alpha_image::{push_longword, push_quadword};
 use alpha_words::{Completion, NoMemory};
@@ -47,9 +47,9 @@ fn completion_number(completion: Completion) -> u8
 
 impl Journal {
     // Appends what stands before the input.
-    #[tactic(auto, unfolding(crate::specs::Journal::front))]
-    fn push_front(&self, out: &mut Vec<u8>) -> Result<(), AllocError>
-        ensures ok { OnOk result (out.new.items ≡ out.old.items ++ front (numbers self.now)) }
+    #[tactic(auto, unfolding(crate::specs::Journal::header_bytes))]
+    fn push_header(&self, out: &mut Vec<u8>) -> Result<(), AllocError>
+        ensures ok { OnOk result (out.new.items ≡ out.old.items ++ header_bytes (numbers self.now)) }
     {
         let ending = self.ending();
         out.extend_from_slice(&MAGIC)?;
@@ -93,7 +93,7 @@ pub fn journal_bytes(alloc: Global, journal: &Journal) -> Result<Vec<u8>, NoMemo
     let (input, output, items) = (journal.input(), journal.output(), journal.items());
     let size = FRONT_BYTES + input.len() + output.len() + bytes_of(items);
     let mut out = Vec::with_capacity(alloc, size)?;
-    journal.push_front(&mut out)?;
+    journal.push_header(&mut out)?;
     out.extend_from_slice(input)?;
     out.extend_from_slice(output)?;
     push_items(&mut out, items)?;

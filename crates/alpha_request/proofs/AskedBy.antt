@@ -1,5 +1,6 @@
 -- Words ask for a command exactly where the rows of this command alone say so.
-use Rattle.std.proofs.Common.{◌≡◌, ◌↔◌, ◌∙◌, Bool, true, false, cond, if◌then◌else◌, List, [], ◌∷◌, Option, Some, None, codes, refl, sym, ap, subst}
+use Rattle.std.proofs.Common.{◌≡◌, ◌↔◌, ◌∙◌, Bool, true, false, cond, if◌then◌else◌, List, [], ◌∷◌, Option, Some, None}
+use Rattle.std.proofs.Common.{codes, refl, sym, ap, subst}
 use Rattle.std.specs.Option.{option_and_then, option_map}
 use Rattle.std.specs.Str.{bytes_eq}
 use Rattle.std.proofs.lemmas.Slice.Eq.{bytes_eq-Decides}
@@ -19,19 +20,21 @@ use Rattle.alpha_request.specs.Asked.{app_of_name, asked, asked_as, command_in, 
 use Rattle.alpha_request.specs.Matched.{matches_on}
 use Rattle.alpha_request.specs.Named.{word_of, name_in}
 use Rattle.alpha_request.specs.AsksBy.{AsksBy}
-use Rattle.alpha_request.proofs.Readings.{asked-named}
+use Rattle.alpha_request.proofs.ClapAnswers.{asked-named}
 
 -- ---- a command that matches make has their name
 
 IsOf : Name → Option Command → Type 0
 IsOf n o = (c : Command) → o ≡ Some c → name_in c ≡ n
 
-map_of : {A : Type 0} (f : A → Command) (n : Name) → ((x : A) → name_in (f x) ≡ n) → (o : Option A) → IsOf n (option_map f o)
+map_of : {A : Type 0} (f : A → Command) (n : Name) → ((x : A) → name_in (f x) ≡ n) → (o : Option A)
+    → IsOf n (option_map f o)
 unfolding IsOf
 map_of f n same None = λ c e. cc
 map_of f n same (Some x) = λ c e. let s : f x ≡ c = cc in subst (λ m. name_in m ≡ n) s (same x)
 
-then_of : {A : Type 0} (f : A → Option Command) (n : Name) → ((x : A) → IsOf n (f x)) → (o : Option A) → IsOf n (option_and_then f o)
+then_of : {A : Type 0} (f : A → Option Command) (n : Name) → ((x : A) → IsOf n (f x)) → (o : Option A)
+    → IsOf n (option_and_then f o)
 unfolding IsOf
 then_of f n same None = λ c e. cc
 then_of f n same (Some x) = same x
@@ -40,10 +43,14 @@ none_of : (n : Name) → IsOf n None
 unfolding IsOf
 none_of n = λ c e. cc
 
-run_of : (late chosen : Bool) (rows : List Row) → IsOf names.Run (if late then imprecise_in rows else if chosen then None else plain_in rows)
+run_of : (late chosen : Bool) (rows : List Row)
+    → IsOf names.Run (if late then imprecise_in rows else if chosen then None else plain_in rows)
 run_of true chosen rows =
     then_of _ names.Run
-    (λ options. then_of _ names.Run (λ choices. map_of (imprecise options choices (force_in rows)) names.Run (λ file. refl) (first_of (codes "file") rows)) (choices_in rows))
+    (λ options. then_of _ names.Run
+    (λ choices.
+    map_of (imprecise options choices (force_in rows)) names.Run (λ file. refl) (first_of (codes "file") rows))
+    (choices_in rows))
     (options_in rows)
 run_of false true rows = none_of names.Run
 run_of false false rows =
@@ -51,15 +58,26 @@ run_of false false rows =
     (λ options. map_of (run options) names.Run (λ file. refl) (first_of (codes "file") rows)) (options_in rows)
 
 made_of : (n : Name) (rows : List Row) → IsOf n (command_in n rows)
-made_of (names.OfImage what) rows = map_of (of_image what) (names.OfImage what) (λ file. refl) (first_of (codes "file") rows)
+made_of (names.OfImage what) rows =
+    map_of (of_image what) (names.OfImage what) (λ file. refl) (first_of (codes "file") rows)
 made_of (names.Make what) rows =
-    then_of _ (names.Make what) (λ file. map_of (make what file) (names.Make what) (λ out. refl) (first_of (codes "out") rows)) (first_of (codes "file") rows)
-made_of names.Link rows = then_of _ names.Link (λ out. map_of (link (entry_in rows) out) names.Link (λ files. refl) (files_in rows)) (first_of (codes "out") rows)
-made_of names.Replay rows = then_of _ names.Replay (λ file. map_of (replay file) names.Replay (λ journal. refl) (first_of (codes "journal") rows)) (first_of (codes "file") rows)
+    then_of _ (names.Make what)
+    (λ file. map_of (make what file) (names.Make what) (λ out. refl) (first_of (codes "out") rows))
+    (first_of (codes "file") rows)
+made_of names.Link rows =
+    then_of _ names.Link (λ out. map_of (link (entry_in rows) out) names.Link (λ files. refl) (files_in rows))
+    (first_of (codes "out") rows)
+made_of names.Replay rows =
+    then_of _ names.Replay
+    (λ file. map_of (replay file) names.Replay (λ journal. refl) (first_of (codes "journal") rows))
+    (first_of (codes "file") rows)
 made_of names.Record rows =
     then_of _ names.Record
     (λ options. then_of _ names.Record
-    (λ choices. then_of _ names.Record (λ file. map_of (record_run options choices (force_in rows) file) names.Record (λ out. refl) (first_of (codes "out") rows)) (first_of (codes "file") rows))
+    (λ choices. then_of _ names.Record
+    (λ file.
+    map_of (record_run options choices (force_in rows) file) names.Record (λ out. refl) (first_of (codes "out") rows))
+    (first_of (codes "file") rows))
     (choices_in rows))
     (bounds_in false rows)
 made_of names.Run rows = run_of (is_imprecise rows) (has_choices rows) rows
@@ -67,7 +85,8 @@ made_of names.Trial rows = map_of trial names.Trial (λ n. refl) (blocks_in rows
 
 -- ---- the name that a word is
 
-step : (word : Text) (m n : Name) (rest : Option Name) (b : Bool) → bytes_eq word (word_of m) ≡ b → (rest ≡ Some n → word ≡ word_of n)
+step : (word : Text) (m n : Name) (rest : Option Name) (b : Bool) → bytes_eq word (word_of m) ≡ b
+    → (rest ≡ Some n → word ≡ word_of n)
     → cond b (Some m) rest ≡ Some n → word ≡ word_of n
 step word m n rest true is k e = let same : m ≡ n = cc in (bytes_eq-Decides word (word_of m)).0 is ∙ ap word_of same
 step word m n rest false is k e = k e
@@ -97,7 +116,8 @@ text_named n = refl
 AskedBy : List Text → Command → Type 0
 AskedBy words c = AsksBy (word_of (name_in c)) (spoken (name_in c)) c words
 
-by_rows : (words rest : List Text) (word : Text) (n : Name) (c : Command) (rows : Option (List Row)) → words ≡ word ∷ rest → word ≡ word_of n
+by_rows : (words rest : List Text) (word : Text) (n : Name) (c : Command) (rows : Option (List Row))
+    → words ≡ word ∷ rest → word ≡ word_of n
     → matches_on (app_of_name n) words ≡ rows → option_and_then (command_in n) rows ≡ Some c → AskedBy words c
 unfolding AskedBy IsOf
 by_rows words rest word n c None first named is e = cc
@@ -108,7 +128,8 @@ by_rows words rest word n c (Some rows) first named is e =
     of : IsOf n (command_in n rows)
     of = made_of n rows
 
-by_name : (rest : List Text) (word : Text) (c : Command) (o : Option Name) → name_of word ≡ o → option_and_then (λ n. asked_as n (word ∷ rest)) o ≡ Some c → AskedBy (word ∷ rest) c
+by_name : (rest : List Text) (word : Text) (c : Command) (o : Option Name) → name_of word ≡ o
+    → option_and_then (λ n. asked_as n (word ∷ rest)) o ≡ Some c → AskedBy (word ∷ rest) c
 unfolding asked_as
 by_name rest word c None is e = cc
 by_name rest word c (Some n) is e =
@@ -122,15 +143,19 @@ by_asked : (words : List Text) (c : Command) → AskedBy words c → asked words
 unfolding AskedBy
 by_asked words c h =
     let n = name_in c in
-    asked-named words (word_of n) h.rest n h.named (text_named n) ∙ (ap (option_and_then (command_in n)) h.matches ∙ h.makes)
+    asked-named words (word_of n) h.rest n h.named (text_named n)
+    ∙ (ap (option_and_then (command_in n)) h.matches ∙ h.makes)
 
-pub asked_both : (words : List Text) (c : Command) → (asked words ≡ Some c) ↔ AsksBy (word_of (name_in c)) (spoken (name_in c)) c words
+pub asked_both : (words : List Text) (c : Command)
+    → (asked words ≡ Some c) ↔ AsksBy (word_of (name_in c)) (spoken (name_in c)) c words
 unfolding AskedBy
 asked_both words c = (asked_by words c, by_asked words c)
 
 -- each way of it
-pub rows_asked : (words : List Text) (c : Command) → asked words ≡ Some c → AsksBy (word_of (name_in c)) (spoken (name_in c)) c words
+pub rows_asked : (words : List Text) (c : Command) → asked words ≡ Some c
+    → AsksBy (word_of (name_in c)) (spoken (name_in c)) c words
 rows_asked words c = (asked_both words c).0
 
-pub asked_rows : (words : List Text) (c : Command) → AsksBy (word_of (name_in c)) (spoken (name_in c)) c words → asked words ≡ Some c
+pub asked_rows : (words : List Text) (c : Command) → AsksBy (word_of (name_in c)) (spoken (name_in c)) c words
+    → asked words ≡ Some c
 asked_rows words c = (asked_both words c).1

@@ -1,5 +1,5 @@
--- What words ask for. The first is the name of a command. The others are read by the definition that the crate clap has of that
--- command, and then by the product's own rules.
+-- What words ask for. The first is the name of a command. The others are read by the definition that the crate clap has
+-- of that command, and then by the product's own rules.
 use Rattle.std.specs.Prelude.{List, [], ◌∷◌, codes, Option, Some, None, if◌then◌else◌}
 use Rattle.std.specs.Option.{option_and_then}
 use Rattle.std.specs.Str.{bytes_eq}

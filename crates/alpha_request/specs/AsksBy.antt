@@ -5,8 +5,8 @@ use Rattle.alpha_request.specs.Command.{Command}
 use Rattle.alpha_request.specs.Matched.{matches_on}
 use Rattle.alpha_request.specs.Spoken.{Spoken}
 
--- The first word is the command's name, clap finds no fault in the words by its definition of the command, and its matches
--- make the command.
+-- The first word is the command's name, clap finds no fault in the words by its definition of the command, and its
+-- matches make the command.
 pub record AsksBy (name : Text) (spoken : Spoken) (command : Command) (words : List Text) : Type 0 where
   pub rest : List Text
   pub named : words ≡ name ∷ rest

@@ -1,7 +1,8 @@
 -- What a request asks for, with the bytes of its texts.
 use Rattle.std.specs.Prelude.{ℕ, List, map}
 use Rattle.alpha_request.specs.declared.request.Request.{Request}
-use Rattle.alpha_request.specs.declared.request.Request.TheVariants.{OfImage, Make, Link, Replay, Record, Run, RunImprecise, Trial}
+use Rattle.alpha_request.specs.declared.request.Request.TheVariants.{OfImage, Make, Link, Replay, Record, Run}
+use Rattle.alpha_request.specs.declared.request.Request.TheVariants.{RunImprecise, Trial}
 use Rattle.alpha_request.specs.declared.files.FileNames.{FileNames}
 use Rattle.alpha_request.specs.Options.{origin_of}
 use Rattle.alpha_request.specs.Command.{Command, of_image, make, link, replay, record_run, run, imprecise, trial}

@@ -1,5 +1,6 @@
 -- A load reads the same bytes in both machines, and a store leaves the same.
-use Rattle.std.proofs.Common.{◌≡◌, ◌≢◌, ◌<◌, ◌≤◌, ◌+◌, ◌⊎◌, ℕ, List, length, Some, None, IsTrue, refl, sym, ap, subst, ◌∙◌, ⊎_elim, inl, inr, arith}
+use Rattle.std.proofs.Common.{◌≡◌, ◌≢◌, ◌<◌, ◌≤◌, ◌+◌, ◌⊎◌, ℕ, List, length, Some, None, IsTrue, refl, sym, ap, subst}
+use Rattle.std.proofs.Common.{◌∙◌, ⊎_elim, inl, inr, arith}
 use Rattle.std.proofs.lemmas.Bool.{cases_eq, cases_lt}
 use Rattle.alpha_words.specs.Regs.{reg}
 use Rattle.alpha_table.specs.declared.columns.InsnKind.{InsnKind}
@@ -14,31 +15,38 @@ use Rattle.alpha_mem.specs.Fault.{fault_of}
 use Rattle.alpha_mem.specs.Memory.{byte_at, bytes_at, write_bytes, IsLayout}
 use Rattle.alpha_mem.proofs.LawLemmas as mem
 use Rattle.alpha_restart.specs.Match.{Reached, DeadByte, SameBytes, intent_of}
-use Rattle.alpha_restart.proofs.Words.{narrow}
+use Rattle.alpha_restart.proofs.Words.{access-IsNarrow}
 use Rattle.alpha_restart.proofs.Bytes.{dead_byte_on, reached_on}
 
-module _ (code : List ℕ) (q e : ℕ) (regs : List ℕ) (m n : List Block) (c : MemAccess) (h : SameBytes code q e regs m n) (less : q < e) (accesses : access (class_at code q) ≡ Some c) where
+module _ (code : List ℕ) (q e : ℕ) (regs : List ℕ) (m n : List Block) (c : MemAccess) (h : SameBytes code q e regs m n)
+    (less : q < e) (accesses : access (class_at code q) ≡ Some c) where
   -- its address
   abbrev pub here : ℕ
   here = access_address c (reg regs c.base)
 
   -- the access at the word doesn't fault
-  pub granted_here : (k : InsnKind) → kind (class_at code q) ≡ Some k → fault_of (shapes m) (intent_of (Some k)) (here) c.bytes ≡ None
+  pub granted_here : (k : InsnKind) → kind (class_at code q) ≡ Some k
+      → fault_of (shapes m) (intent_of (Some k)) (here) c.bytes ≡ None
   granted_here k is =
       ap (λ o. fault_of (shapes m) (intent_of o) (here) c.bytes) (sym is)
       ∙ (h.reached q c (omega arith) less accesses).granted
 
-  pub granted_there : (k : InsnKind) → kind (class_at code q) ≡ Some k → fault_of (shapes n) (intent_of (Some k)) (here) c.bytes ≡ None
+  pub granted_there : (k : InsnKind) → kind (class_at code q) ≡ Some k
+      → fault_of (shapes n) (intent_of (Some k)) (here) c.bytes ≡ None
   granted_there k is =
       ap (λ ss. fault_of ss (intent_of (Some k)) (here) c.bytes) h.blocks ∙ granted_here k is
 
   -- a byte that the load at q reads isn't dead
-  read_same : (y : ℕ) → kind (class_at code q) ≡ Some kinds.Load → Covers c (reg regs c.base) y → byte_at m y ≡ byte_at n y
+  read_same : (y : ℕ) → kind (class_at code q) ≡ Some kinds.Load → Covers c (reg regs c.base) y
+      → byte_at m y ≡ byte_at n y
   read_same y load covers = ⊎_elim
       (λ (same : byte_at n y ≡ byte_at m y). sym same)
       (λ (d : DeadByte code q e regs y). ⊎_elim
-      (λ (is : q ≡ d.at). let f : kind (class_at code q) ≡ Some kinds.Store = ap (λ k. kind (class_at code k)) is ∙ d.store in cc)
-      (λ (apart : q ≡ d.at → ⊥). let low = d.above in absurd (d.unread q c (omega arith) (omega arith) load accesses covers))
+      (λ (is : q ≡ d.at).
+      let f : kind (class_at code q) ≡ Some kinds.Store = ap (λ k. kind (class_at code k)) is ∙ d.store in
+      cc)
+      (λ (apart : q ≡ d.at → ⊥). let low = d.above in
+      absurd (d.unread q c (omega arith) (omega arith) load accesses covers))
       (cases_eq q d.at))
       (h.bytes y)
 
@@ -46,7 +54,8 @@ module _ (code : List ℕ) (q e : ℕ) (regs : List ℕ) (m n : List Block) (c :
       → bytes_at n (here) c.bytes ≡ bytes_at m (here) c.bytes
   same_loaded load =
       sym (mem.bytes_at-agree m n (here) c.bytes (sym h.blocks) h.layout
-      (mem.within-granted (shapes m) Load (here) c.bytes h.layout (narrow code q c accesses).divides (granted_here kinds.Load load))
+      (mem.within-granted (shapes m) Load (here) c.bytes h.layout (access-IsNarrow code q c accesses).divides
+      (granted_here kinds.Load load))
       (λ x low high. read_same x load (record { from = low; below = high })))
 
   -- the bytes after a store at q
@@ -64,7 +73,8 @@ module _ (code : List ℕ) (q e : ℕ) (regs : List ℕ) (m n : List Block) (c :
       there =
           subst (λ k. IsTrue (within (shapes m) Load (here) k)) (sym size)
           (mem.within-readable (shapes m) (here) c.bytes
-          (mem.within-granted (shapes m) Store (here) c.bytes h.layout (narrow code q c accesses).divides (granted_here kinds.Store store)))
+          (mem.within-granted (shapes m) Store (here) c.bytes h.layout (access-IsNarrow code q c accesses).divides
+          (granted_here kinds.Store store)))
 
       inside : here ≤ y → y < here + length xs
           → byte_at (write_bytes n (here) xs) y ≡ byte_at (write_bytes m (here) xs) y
@@ -75,7 +85,8 @@ module _ (code : List ℕ) (q e : ℕ) (regs : List ℕ) (m n : List Block) (c :
 
       elsewhere : (y < here) ⊎ (here + length xs ≤ y) → (d : DeadByte code q e regs y) → d.at ≢ q
       elsewhere out d is =
-          let same : d.c ≡ c = (let f : Some d.c ≡ Some c = sym d.accesses ∙ (ap (λ k. access (class_at code k)) is ∙ accesses) in cc) in
+          let same : d.c ≡ c =
+          (let f : Some d.c ≡ Some c = sym d.accesses ∙ (ap (λ k. access (class_at code k)) is ∙ accesses) in cc) in
           let w : Covers c (reg regs c.base) y = subst (λ k. Covers k (reg regs k.base) y) same d.written in
           let low = w.from in
           let high = w.below in
@@ -84,8 +95,10 @@ module _ (code : List ℕ) (q e : ℕ) (regs : List ℕ) (m n : List Block) (c :
       outside : (y < here) ⊎ (here + length xs ≤ y)
           → (byte_at (write_bytes n (here) xs) y ≡ byte_at (write_bytes m (here) xs) y) ⊎ DeadByte code (q + 1) e regs y
       outside out = ⊎_elim
-          (λ (same : byte_at n y ≡ byte_at m y). inl (mem.byte_at-write_bytes_outside n (here) xs y out ∙ (same ∙ sym (mem.byte_at-write_bytes_outside m (here) xs y out))))
-          (λ (d : DeadByte code q e regs y). inr (dead_byte_on code q e e regs regs m n y (λ x u. refl) h (omega arith) d (elsewhere out d)))
+          (λ (same : byte_at n y ≡ byte_at m y). inl (mem.byte_at-write_bytes_outside n (here) xs y out
+          ∙ (same ∙ sym (mem.byte_at-write_bytes_outside m (here) xs y out))))
+          (λ (d : DeadByte code q e regs y).
+          inr (dead_byte_on code q e e regs regs m n y (λ x u. refl) h (omega arith) d (elsewhere out d)))
           (h.bytes y)
 
   pub bytes_stored : (xs : List ℕ) → length xs ≡ c.bytes → kind (class_at code q) ≡ Some kinds.Store

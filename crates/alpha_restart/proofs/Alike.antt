@@ -1,15 +1,17 @@
 -- Registers that are the same or dead, from one word to the next.
-use Rattle.std.proofs.Common.{◌≡◌, ◌≢◌, ◌<◌, ◌≤◌, ◌+◌, ℕ, true, List, length, Some, refl, sym, ap, subst, ◌∙◌, ⊎_elim, inl, inr, arith, max}
+use Rattle.std.proofs.Common.{◌≡◌, ◌≢◌, ◌<◌, ◌≤◌, ◌+◌, ℕ, true, List, length, Some, refl, sym, ap, subst, ◌∙◌, ⊎_elim}
+use Rattle.std.proofs.Common.{inl, inr, arith, max}
 use Rattle.std.proofs.lemmas.Bool.{cases_eq, cases_lt}
 use Rattle.alpha_words.specs.Regs.{reg}
 use Rattle.alpha_table.specs.Code.{class_at}
 use Rattle.alpha_table.specs.Uses.{sets}
 use Rattle.alpha_restart.specs.Safe.{Steady, is_steady}
 use Rattle.alpha_restart.specs.Match.{Dead, Alike}
-use Rattle.alpha_restart.proofs.Registers.{has_cases, same_file}
+use Rattle.alpha_restart.proofs.Registers.{has_cases, reg-extensional}
 
 -- a dead register that the word doesn't set is dead behind it
-pub dead_on : (code : List ℕ) (q e f r : ℕ) → sets (class_at code q) ≢ Some r → Dead code q e r → e ≤ f → Dead code (q + 1) f r
+pub dead_on : (code : List ℕ) (q e f r : ℕ) → sets (class_at code q) ≢ Some r → Dead code q e r → e ≤ f
+    → Dead code (q + 1) f r
 dead_on code q e f r unset d more = record {
   at = d.at;
   above = ⊎_elim
@@ -53,7 +55,7 @@ alike_on code q e s a t b h less size also same_unset same_unset_too both = reco
 
 -- at the end no register is dead
 pub alike_end : (code : List ℕ) (q : ℕ) (s a : List ℕ) → Alike code q q s a → a ≡ s
-alike_end code q s a h = same_file a s (h.size_too ∙ sym h.size) (λ r. ⊎_elim
+alike_end code q s a h = reg-extensional a s (h.size_too ∙ sym h.size) (λ r. ⊎_elim
     (λ (same : reg a r ≡ reg s r). same)
     (λ (d : Dead code q q r). let low = d.above in let high = d.below in absurd (omega arith))
     (h.registers r))
@@ -69,7 +71,8 @@ alike_same code q s size = record {
 }
 
 -- one word more is steady
-pub steady_more : (code : List ℕ) (p q e : ℕ) → Steady code p e → q ≤ e → is_steady (class_at code q) ≡ true → Steady code p (max e (q + 1))
+pub steady_more : (code : List ℕ) (p q e : ℕ) → Steady code p e → q ≤ e → is_steady (class_at code q) ≡ true
+    → Steady code p (max e (q + 1))
 steady_more code p q e h order here = λ k low high. ⊎_elim
     (λ (below : k < e). h k low below)
     (λ (past : e ≤ k). subst (λ j. is_steady (class_at code j) ≡ true) (let same : q ≡ k = omega arith in same) here)

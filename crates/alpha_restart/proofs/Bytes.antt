@@ -1,5 +1,6 @@
 -- Bytes that are the same or dead, from one word to the next.
-use Rattle.std.proofs.Common.{◌≡◌, ◌≢◌, ◌<◌, ◌≤◌, ◌+◌, ℕ, List, Some, refl, sym, ap, subst, ◌∙◌, ⊎_elim, inl, inr, arith}
+use Rattle.std.proofs.Common.{◌≡◌, ◌≢◌, ◌<◌, ◌≤◌, ◌+◌, ℕ, List, Some, refl, sym, ap, subst, ◌∙◌, ⊎_elim, inl, inr}
+use Rattle.std.proofs.Common.{arith}
 use Rattle.alpha_words.specs.Regs.{reg}
 use Rattle.alpha_table.specs.declared.columns.InsnKind.TheVariants as kinds
 use Rattle.alpha_table.specs.declared.columns.MemAccess.{MemAccess}
@@ -20,7 +21,8 @@ covers_moved : (c : MemAccess) (v w y : ℕ) → v ≡ w → Covers c v y → Co
 covers_moved c v w y e h = subst (λ n. Covers c n y) e h
 
 -- the words behind the one at q reach their accesses as before
-pub reached_on : (code : List ℕ) (q i : ℕ) (c : MemAccess) (old new : List ℕ) (m : List Block) → q < i → SameUnset code q old new
+pub reached_on : (code : List ℕ) (q i : ℕ) (c : MemAccess) (old new : List ℕ) (m : List Block) → q < i
+    → SameUnset code q old new
     → Reached code q i c old (shapes m) → Reached code (q + 1) i c new (shapes m)
 reached_on code q i c old new m above same_unset h = record {
   base = λ k low high. h.base k (omega arith) high;
@@ -29,7 +31,8 @@ reached_on code q i c old new m above same_unset h = record {
 }
 
 -- a dead byte that no store at q writes is dead behind q
-pub dead_byte_on : (code : List ℕ) (q e f : ℕ) (old new : List ℕ) (m n : List Block) (y : ℕ) → SameUnset code q old new → SameBytes code q e old m n
+pub dead_byte_on : (code : List ℕ) (q e f : ℕ) (old new : List ℕ) (m n : List Block) (y : ℕ) → SameUnset code q old new
+    → SameBytes code q e old m n
     → e ≤ f → (d : DeadByte code q e old y) → (d.at ≢ q) → DeadByte code (q + 1) f new y
 dead_byte_on code q e f old new m n y same_unset h more d apart =
     let low = d.above in
@@ -42,15 +45,19 @@ dead_byte_on code q e f old new m n y same_unset h more d apart =
       accesses = d.accesses;
       store = d.store;
       written = covers_moved d.c (reg old d.c.base) (reg new d.c.base) y
-          (sym (same_unset d.c.base ((h.reached d.at d.c low high d.accesses).base q (omega arith) (omega arith)))) d.written;
+          (sym (same_unset d.c.base ((h.reached d.at d.c low high d.accesses).base q (omega arith) (omega arith))))
+          d.written;
       unread = λ j c above below load accesses covers. d.unread j c (omega arith) below load accesses
           (covers_moved c (reg new c.base) (reg old c.base) y
-          (same_unset c.base ((h.reached j c (omega arith) (omega arith) accesses).base q (omega arith) (omega arith))) covers);
+          (same_unset c.base ((h.reached j c (omega arith) (omega arith) accesses).base q (omega arith) (omega arith)))
+          covers);
     }
 
 -- past a word that stores nothing
-pub bytes_on : (code : List ℕ) (q e f : ℕ) (old new : List ℕ) (m n : List Block) → kind (class_at code q) ≢ Some kinds.Store
-    → SameUnset code q old new → SameBytes code q e old m n → e ≤ f → ((i : ℕ) → q < i → i < f → i < e) → SameBytes code (q + 1) f new m n
+pub bytes_on : (code : List ℕ) (q e f : ℕ) (old new : List ℕ) (m n : List Block)
+    → kind (class_at code q) ≢ Some kinds.Store
+    → SameUnset code q old new → SameBytes code q e old m n → e ≤ f → ((i : ℕ) → q < i → i < f → i < e)
+    → SameBytes code (q + 1) f new m n
 bytes_on code q e f old new m n plain same_unset h more few = record {
   blocks = h.blocks;
   layout = h.layout;
@@ -59,7 +66,9 @@ bytes_on code q e f old new m n plain same_unset h more few = record {
       (λ (d : DeadByte code q e old y). inr (dead_byte_on code q e f old new m n y same_unset h more d
       (λ is. plain (ap (λ k. kind (class_at code k)) (sym is) ∙ d.store))))
       (h.bytes y);
-  reached = λ i c low high accesses. reached_on code q i c old new m (omega arith) same_unset (h.reached i c (omega arith) (few i (omega arith) high) accesses);
+  reached =
+      λ i c low high accesses. reached_on code q i c old new m (omega arith) same_unset
+      (h.reached i c (omega arith) (few i (omega arith) high) accesses);
 }
 
 -- at the end no byte is dead
@@ -69,7 +78,8 @@ bytes_end code q regs m n h = mem.same_memory n m h.blocks (subst IsLayout (sym 
     (λ (d : DeadByte code q q regs y). let low = d.above in let high = d.below in absurd (omega arith))
     (h.bytes y))
 
-pub bytes_same : (code : List ℕ) (q : ℕ) (regs : List ℕ) (m : List Block) → IsLayout (shapes m) → SameBytes code q q regs m m
+pub bytes_same : (code : List ℕ) (q : ℕ) (regs : List ℕ) (m : List Block) → IsLayout (shapes m)
+    → SameBytes code q q regs m m
 bytes_same code q regs m layout = record {
   blocks = refl;
   layout = layout;

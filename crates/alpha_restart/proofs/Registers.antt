@@ -1,5 +1,6 @@
 -- Writes of registers, one register at a time.
-use Rattle.std.proofs.Common.{◌≡◌, ◌≢◌, ◌<◌, ◌≤◌, ◌⊎◌, ℕ, Bool, true, false, cond, eqb, List, length, set, get_or, Option, Some, None, refl, sym, ap, ◌∙◌, ⊎_elim, inl, inr, arith}
+use Rattle.std.proofs.Common.{◌≡◌, ◌≢◌, ◌<◌, ◌≤◌, ◌⊎◌, ℕ, Bool, true, false, cond, eqb, List, length, set, get_or}
+use Rattle.std.proofs.Common.{Option, Some, None, refl, sym, ap, ◌∙◌, ⊎_elim, inl, inr, arith}
 use Rattle.std.proofs.lemmas.Bool.{cases_eq, cases_lt, eqb-true}
 use Rattle.std.proofs.lemmas.List.{length-set, get_or-set_same, get_or-set_other, ext_get_or, get_or_past}
 use Rattle.alpha_words.specs.Regs.{reg, put}
@@ -20,7 +21,8 @@ unfolding reg put
 reg-put_other file r x v apart = other_by file r x v (eqb r 31) apart
 
 -- a register below 31 is written
-same_by : (file : List ℕ) (r v : ℕ) (b : Bool) → eqb r 31 ≡ b → r < 31 → length file ≡ 32 → get_or (cond b file (set file r v)) r 0 ≡ v
+same_by : (file : List ℕ) (r v : ℕ) (b : Bool) → eqb r 31 ≡ b → r < 31 → length file ≡ 32
+    → get_or (cond b file (set file r v)) r 0 ≡ v
 same_by file r v true e small size = let same = eqb-true r 31 e in absurd (omega arith)
 same_by file r v false e small size = get_or-set_same file r v 0 (omega arith)
 
@@ -29,7 +31,8 @@ unfolding reg put
 reg-put_same file r v small size = same_by file r v (eqb r 31) refl small size
 
 -- what a word sets is what its write changes
-unset_by : (file : List ℕ) (r x v : ℕ) (b : Bool) → cond b None (Some r) ≢ Some x → get_or (cond b file (set file r v)) x 0 ≡ get_or file x 0
+unset_by : (file : List ℕ) (r x v : ℕ) (b : Bool) → cond b None (Some r) ≢ Some x
+    → get_or (cond b file (set file r v)) x 0 ≡ get_or file x 0
 unset_by file r x v true n = refl
 unset_by file r x v false n = get_or-set_other file r x v 0 (λ (e : x ≡ r). n (ap Some (sym e)))
 
@@ -38,7 +41,8 @@ unfolding reg put
 reg-put_unset file r x v n = unset_by file r x v (eqb r 31) n
 
 -- one value written to one register of two files
-set_by : (file other : List ℕ) (r x v : ℕ) (b : Bool) → cond b None (Some r) ≡ Some x → length file ≡ 32 → length other ≡ 32
+set_by : (file other : List ℕ) (r x v : ℕ) (b : Bool) → cond b None (Some r) ≡ Some x → length file ≡ 32
+    → length other ≡ 32
     → get_or (cond b file (set file r v)) x 0 ≡ get_or (cond b other (set other r v)) x 0
 set_by file other r x v true e size also = cc
 set_by file other r x v false e size also =
@@ -49,7 +53,8 @@ set_by file other r x v false e size also =
     (λ (high : 32 ≤ r). past file other r x v size also (omega arith))
     (cases_lt r 32)
   where
-    past : (file other : List ℕ) (r x v : ℕ) → length file ≡ 32 → length other ≡ 32 → 32 ≤ x → get_or (set file r v) x 0 ≡ get_or (set other r v) x 0
+    past : (file other : List ℕ) (r x v : ℕ) → length file ≡ 32 → length other ≡ 32 → 32 ≤ x
+        → get_or (set file r v) x 0 ≡ get_or (set other r v) x 0
     past file other r x v size also far =
         get_or_past (set file r v) x 0 (omega (arith, length-set {A = ℕ}))
         ∙ sym (get_or_past (set other r v) x 0 (omega (arith, length-set {A = ℕ})))
@@ -80,6 +85,7 @@ unfolding reg
 reg-past file other x size also far = get_or_past file x 0 (omega arith) ∙ sym (get_or_past other x 0 (omega arith))
 
 -- files of the same registers are the same
-pub same_file : (file other : List ℕ) → length file ≡ length other → ((x : ℕ) → reg file x ≡ reg other x) → file ≡ other
+pub reg-extensional : (file other : List ℕ) → length file ≡ length other → ((x : ℕ) → reg file x ≡ reg other x)
+    → file ≡ other
 unfolding reg
-same_file file other size same = ext_get_or 0 file other size (λ x h. same x)
+reg-extensional file other size same = ext_get_or 0 file other size (λ x h. same x)

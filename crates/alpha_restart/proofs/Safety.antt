@@ -43,7 +43,8 @@ module _ (code : List ℕ) (accepted : IsAccepted code) where
     },
   )
 
-  same : (p i c : ℕ) → Shadowed code p i → p < i → trap_rc (class_at code p) ≡ Some c → trap_rc (class_at code i) ≢ Some c
+  same : (p i c : ℕ) → Shadowed code p i → p < i → trap_rc (class_at code p) ≡ Some c
+      → trap_rc (class_at code i) ≢ Some c
   same p i c h above own_rc rc =
       none p i conditions.SameDestination h (above, has_rc_trigger (class_at code i) (ap is_some rc), rc ∙ sym own_rc)
 
@@ -55,7 +56,8 @@ module _ (code : List ℕ) (accepted : IsAccepted code) where
   meets : (p i j : ℕ) (a b : MemAccess) → Shadowed code p i → kind (class_at code i) ≡ Some kinds.Store
       → access (class_at code i) ≡ Some a → p < j → j < i → kind (class_at code j) ≡ Some kinds.Load
       → access (class_at code j) ≡ Some b → ((b.base ≢ a.base) ⊎ AccessesMeet b a) → ⊥
-  meets p i j a b h store e low high load f meet = none p i conditions.LoadThenStore h (j, low, high, (b, (a, (load, f, store, e, meet))))
+  meets p i j a b h store e low high load f meet =
+      none p i conditions.LoadThenStore h (j, low, high, (b, (a, (load, f, store, e, meet))))
 
   pub safe : IsSafe code
   safe = record {

@@ -1,5 +1,6 @@
 -- Registers while a trap is pending: from the trigger over the words that wait to the report.
-use Rattle.std.proofs.Common.{◌≡◌, ◌≢◌, ◌<◌, ◌≤◌, ◌+◌, ◌⊎◌, ℕ, zero, suc, true, false, Bool, List, length, Option, Some, None, refl, sym, ap, ◌∙◌, ⊎_elim, inl, inr, arith, max}
+use Rattle.std.proofs.Common.{◌≡◌, ◌≢◌, ◌<◌, ◌≤◌, ◌+◌, ◌⊎◌, ℕ, zero, suc, true, false, Bool, List, length, Option, Some}
+use Rattle.std.proofs.Common.{None, refl, sym, ap, ◌∙◌, ⊎_elim, inl, inr, arith, max}
 use Rattle.std.proofs.lemmas.Bool.{cases_eq, cases_lt}
 use Rattle.alpha_words.specs.declared.Completion.{Completion}
 use Rattle.alpha_words.specs.Regs.{reg, put}
@@ -19,7 +20,7 @@ use Rattle.alpha_restart.specs.Match.{Dead, Alike}
 use Rattle.alpha_restart.specs.Trigger.{Trigger, trigger_word, trigger_value}
 use Rattle.alpha_restart.specs.Shadow.{Shadow}
 use Rattle.alpha_restart.proofs.Registers.{has_cases, reg-past, reg-put_other, reg-put_same, reg-put_unset, counted_set}
-use Rattle.alpha_restart.proofs.Reading.{counts_first, source_used, counts_source, set_not_31}
+use Rattle.alpha_restart.proofs.SourcesAlike.{counts_first, source_used, counts_source, set_not_31}
 use Rattle.alpha_restart.proofs.Alike.{dead_on, dead_more, steady_more}
 use Rattle.alpha_restart.proofs.Bytes.{SameUnset}
 
@@ -37,20 +38,25 @@ class_straight : (o : Option Class) → is_steady o ≡ true → (kind o ≢ Som
 class_straight None e = cc
 class_straight (Some class) e = steady_straight (class_kind class) e
 
-pub straight_on : (code : List ℕ) (p e : ℕ) → Steady code p e → Straight code p e
-straight_on code p e h = λ k low high. class_straight (class_at code k) (h k low high)
+pub Steady-Straight : (code : List ℕ) (p e : ℕ) → Steady code p e → Straight code p e
+Steady-Straight code p e h = λ k low high. class_straight (class_at code k) (h k low high)
 
 -- a trigger's shadow reaches over steady words
-pub shadowed : (code : List ℕ) (p e : ℕ) (t : Trigger) → class_at code p ≡ trigger_word t → p ≤ e → Steady code p e → Shadowed code p e
-shadowed code p e t is order h = record { trigger_kind = ap kind is; order = order; straight = straight_on code p e h }
+pub Steady-Shadowed : (code : List ℕ) (p e : ℕ) (t : Trigger) → class_at code p ≡ trigger_word t → p ≤ e
+    → Steady code p e
+    → Shadowed code p e
+Steady-Shadowed code p e t is order h =
+    record { trigger_kind = ap kind is; order = order; straight = Steady-Straight code p e h }
 
-module _ (code : List ℕ) (safe : IsSafe code) (how : Completion) (p : ℕ) (t : Trigger) (word : class_at code p ≡ trigger_word t) where
+module _ (code : List ℕ) (safe : IsSafe code) (completion : Completion) (p : ℕ) (t : Trigger)
+    (word : class_at code p ≡ trigger_word t) where
   -- what a word of the shadow changes is no source of the trigger
   source_same : (i x : ℕ) (a b : List ℕ) → Shadowed code p i → length a ≡ 32 → length b ≡ 32 → SameUnset code i a b
       → (x < 31 → uses (trigger_word t) x ≡ true) → reg b x ≡ reg a x
   source_same i x a b h size also same_unset used = ⊎_elim
       (λ (set : sets (class_at code i) ≡ Some x). ⊎_elim
-      (λ (low : x < 31). absurd (safe.source p i p x h (omega arith) h.order set (ap (λ o. uses o x) word ∙ used low) (λ k above below. absurd (omega arith))))
+      (λ (low : x < 31). absurd (safe.source p i p x h (omega arith) h.order set (ap (λ o. uses o x) word ∙ used low)
+      (λ k above below. absurd (omega arith))))
       (λ (high : 31 ≤ x). ⊎_elim
       (λ (is : x ≡ 31). absurd (set_not_31 (class_at code i) (set ∙ ap Some is)))
       (λ (past : x ≡ 31 → ⊥). reg-past b a x also size (omega arith))
@@ -59,16 +65,20 @@ module _ (code : List ℕ) (safe : IsSafe code) (how : Completion) (p : ℕ) (t 
       (λ (n : sets (class_at code i) ≢ Some x). same_unset x n)
       (has_cases (sets (class_at code i)) x)
 
-  second_same : (i : ℕ) (src : Src) (a b : List ℕ) → t.src ≡ src → Shadowed code p i → length a ≡ 32 → length b ≡ 32 → SameUnset code i a b
+  second_same : (i : ℕ) (src : Src) (a b : List ℕ) → t.src ≡ src → Shadowed code p i → length a ≡ 32 → length b ≡ 32
+      → SameUnset code i a b
       → source_value b src ≡ source_value a src
   second_same i (Reg x) a b is h size also same_unset =
-      source_same i x a b h size also same_unset (λ low. counts_source false t.ra t.rc x (source_registers t.src) low (source_used x t.src is))
+      source_same i x a b h size also same_unset
+      (λ low. counts_source false t.ra t.rc x (source_registers t.src) low (source_used x t.src is))
   second_same i (Lit n) a b is h size also same_unset = refl
 
-  pub value_same : (i : ℕ) (a b : List ℕ) → Shadowed code p i → length a ≡ 32 → length b ≡ 32 → SameUnset code i a b → trigger_value how t b ≡ trigger_value how t a
+  pub value_same : (i : ℕ) (a b : List ℕ) → Shadowed code p i → length a ≡ 32 → length b ≡ 32 → SameUnset code i a b
+      → trigger_value completion t b ≡ trigger_value completion t a
   value_same i a b h size also same_unset =
-      ap (λ x. completed_of t.op x (source_value b t.src) how) (source_same i t.ra a b h size also same_unset (λ low. counts_first t.ra (source_registers t.src) low))
-      ∙ ap (λ y. completed_of t.op (reg a t.ra) y how) (second_same i t.src a b refl h size also same_unset)
+      ap (λ x. completed_of t.op x (source_value b t.src) completion)
+      (source_same i t.ra a b h size also same_unset (λ low. counts_first t.ra (source_registers t.src) low))
+      ∙ ap (λ y. completed_of t.op (reg a t.ra) y completion) (second_same i t.src a b refl h size also same_unset)
 
   -- ---- the first word behind the trigger that sets a register
 
@@ -81,12 +91,15 @@ module _ (code : List ℕ) (safe : IsSafe code) (how : Completion) (p : ℕ) (t 
   first_below : (r n : ℕ) → ((k : ℕ) → p < k → k < n → sets (class_at code k) ≢ Some r) ⊎ ((f : First r) × (f.at < n))
   first_below r zero = inl (λ k low high. absurd (omega arith))
   first_below r (suc n) = ⊎_elim
-      (λ (none : (k : ℕ) → p < k → k < n → sets (class_at code k) ≢ Some r). last none (has_cases (sets (class_at code n)) r) (cases_lt p n))
+      (λ (none : (k : ℕ) → p < k → k < n → sets (class_at code k) ≢ Some r).
+      last none (has_cases (sets (class_at code n)) r) (cases_lt p n))
       (λ (f : (f : First r) × (f.at < n)). inr (f.0, (let low : f.0.at < n = f.1 in omega arith)))
       (first_below r n)
     where
-      last : ((k : ℕ) → p < k → k < n → sets (class_at code k) ≢ Some r) → (sets (class_at code n) ≡ Some r) ⊎ (sets (class_at code n) ≢ Some r)
-          → (p < n) ⊎ (n ≤ p) → ((k : ℕ) → p < k → k < suc n → sets (class_at code k) ≢ Some r) ⊎ ((f : First r) × (f.at < suc n))
+      last : ((k : ℕ) → p < k → k < n → sets (class_at code k) ≢ Some r)
+          → (sets (class_at code n) ≡ Some r) ⊎ (sets (class_at code n) ≢ Some r)
+          → (p < n) ⊎ (n ≤ p)
+          → ((k : ℕ) → p < k → k < suc n → sets (class_at code k) ≢ Some r) ⊎ ((f : First r) × (f.at < suc n))
       last none (inl set) (inl above) = inr (record { at = n; above = above; written = set; least = none }, omega arith)
       last none (inl set) (inr low) = inl (λ k above below. absurd (omega arith))
       last none (inr unset) c = inl (λ k above below. ⊎_elim
@@ -95,16 +108,19 @@ module _ (code : List ℕ) (safe : IsSafe code) (how : Completion) (p : ℕ) (t 
           (cases_eq k n))
 
   -- a register that a word of the shadow sets, and the trigger doesn't, is dead
-  pub new_dead : (i f r : ℕ) → p < i → i < f → Steady code p f → sets (class_at code p) ≢ Some r → sets (class_at code i) ≡ Some r → Dead code (p + 1) f r
+  pub new_dead : (i f r : ℕ) → p < i → i < f → Steady code p f → sets (class_at code p) ≢ Some r
+      → sets (class_at code i) ≡ Some r → Dead code (p + 1) f r
   new_dead i f r above below steady own set = ⊎_elim
-      (λ (none : (k : ℕ) → p < k → k < i + 1 → sets (class_at code k) ≢ Some r). absurd (none i above (omega arith) set))
+      (λ (none : (k : ℕ) → p < k → k < i + 1 → sets (class_at code k) ≢ Some r).
+      absurd (none i above (omega arith) set))
       (λ (w : (d : First r) × (d.at < i + 1)). made w.0 w.1)
       (first_below r (i + 1))
     where
-      not_used : (d : First r) → d.at < i + 1 → (j : ℕ) → p + 1 ≤ j → j ≤ d.at → (b : Bool) → uses (class_at code j) r ≡ b → b ≡ false
+      not_used : (d : First r) → d.at < i + 1 → (j : ℕ) → p + 1 ≤ j → j ≤ d.at → (b : Bool)
+          → uses (class_at code j) r ≡ b → b ≡ false
       not_used d low j from to false e = refl
       not_used d low j from to true e = absurd (safe.source p d.at j r
-          (shadowed code p d.at t word (let up = d.above in omega arith) (λ k a b. steady k a (omega arith)))
+          (Steady-Shadowed code p d.at t word (let up = d.above in omega arith) (λ k a b. steady k a (omega arith)))
           (omega arith) to d.written e (λ k over under. ⊎_elim
           (λ (is : k ≡ p). (λ f. own (ap (λ j. sets (class_at code j)) (sym is) ∙ f)))
           (λ (apart : k ≡ p → ⊥). d.least k (omega arith) (omega arith))
@@ -126,11 +142,14 @@ module _ (code : List ℕ) (safe : IsSafe code) (how : Completion) (p : ℕ) (t 
   -- ---- the window
 
   -- at the trigger
-  pub trigger_shadow : (e v : ℕ) (s a : List ℕ) → Alike code p e s a → t.rc < 31 → reg a t.ra ≡ reg s t.ra → source_value a t.src ≡ source_value s t.src
-      → Shadow code how p (p + 1) (max e (p + 1)) t (put s t.rc (trigger_value how t s)) (put a t.rc v)
+  pub trigger_shadow : (e v : ℕ) (s a : List ℕ) → Alike code p e s a → t.rc < 31 → reg a t.ra ≡ reg s t.ra
+      → source_value a t.src ≡ source_value s t.src
+      → Shadow code completion p (p + 1) (max e (p + 1)) t (put s t.rc (trigger_value completion t s)) (put a t.rc v)
   trigger_shadow e v s a h low same same_too =
-      let same_unset : SameUnset code p a (put a t.rc v) = λ x n. reg-put_unset a t.rc x v (λ f. n (ap sets word ∙ f)) in
-      let size : length (put s t.rc (trigger_value how t s)) ≡ 32 = length-put s t.rc (trigger_value how t s) ∙ h.size in
+      let same_unset : SameUnset code p a (put a t.rc v) =
+      λ x n. reg-put_unset a t.rc x v (λ f. n (ap sets word ∙ f)) in
+      let size : length (put s t.rc (trigger_value completion t s)) ≡ 32 =
+      length-put s t.rc (trigger_value completion t s) ∙ h.size in
       let also : length (put a t.rc v) ≡ 32 = length-put a t.rc v ∙ h.size_too in
       record {
         order = omega arith;
@@ -140,19 +159,25 @@ module _ (code : List ℕ) (safe : IsSafe code) (how : Completion) (p : ℕ) (t 
         size = size;
         size_too = also;
         registers = λ r n. ⊎_elim
-            (λ (e : reg a r ≡ reg s r). inl (reg-put_other a t.rc r v n ∙ (e ∙ sym (reg-put_other s t.rc r (trigger_value how t s) n))))
-            (λ (d : Dead code p e r). inr (dead_on code p e (max e (p + 1)) r (λ f. n (let f' : Some r ≡ Some t.rc = sym f ∙ own_set low in cc)) d (omega arith)))
+            (λ (e : reg a r ≡ reg s r).
+            inl (reg-put_other a t.rc r v n ∙ (e ∙ sym (reg-put_other s t.rc r (trigger_value completion t s) n))))
+            (λ (d : Dead code p e r). inr (dead_on code p e (max e (p + 1)) r
+            (λ f. n (let f' : Some r ≡ Some t.rc = sym f ∙ own_set low in cc)) d (omega arith)))
             (h.registers r);
         steady = steady_more code p p e h.steady h.order (ap is_steady word);
         value =
-            value_same p a (put a t.rc v) (shadowed code p p t word (omega arith) (λ k above below. absurd (omega arith))) h.size_too also same_unset
-            ∙ (ap (λ x. completed_of t.op x (source_value a t.src) how) same ∙ ap (λ y. completed_of t.op (reg s t.ra) y how) same_too)
-            ∙ sym (reg-put_same s t.rc (trigger_value how t s) low h.size);
+            value_same p a (put a t.rc v)
+            (Steady-Shadowed code p p t word (omega arith) (λ k above below. absurd (omega arith))) h.size_too also
+            same_unset
+            ∙ (ap (λ x. completed_of t.op x (source_value a t.src) completion) same
+            ∙ ap (λ y. completed_of t.op (reg s t.ra) y completion) same_too)
+            ∙ sym (reg-put_same s t.rc (trigger_value completion t s) low h.size);
       }
 
   -- over a word that waits
-  pub wait_shadow : (i e : ℕ) (s a b : List ℕ) → is_steady (class_at code i) ≡ true → length b ≡ 32 → SameUnset code i a b
-      → Shadow code how p i e t s a → Shadow code how p (i + 1) (max e (i + 1)) t s b
+  pub wait_shadow : (i e : ℕ) (s a b : List ℕ) → is_steady (class_at code i) ≡ true → length b ≡ 32
+      → SameUnset code i a b
+      → Shadow code completion p i e t s a → Shadow code completion p (i + 1) (max e (i + 1)) t s b
   wait_shadow i e s a b here also same_unset h =
       let more : Steady code p (max e (i + 1)) = steady_more code p i e h.steady h.order here in
       record {
@@ -171,14 +196,18 @@ module _ (code : List ℕ) (safe : IsSafe code) (how : Completion) (p : ℕ) (t 
             (h.registers r n))
             (has_cases (sets (class_at code i)) r);
         steady = more;
-        value = value_same i a b (shadowed code p i t word (let up = h.above in omega arith) (λ k low high. h.steady k low (let o = h.order in omega arith))) h.size_too also same_unset ∙ h.value;
+        value =
+            value_same i a b (Steady-Shadowed code p i t word (let up = h.above in omega arith)
+            (λ k low high. h.steady k low (let o = h.order in omega arith))) h.size_too also same_unset ∙ h.value;
       }
 
   -- the base of an access in the window is the same in both machines
-  pub base_same : (i e : ℕ) (s a : List ℕ) (c : MemAccess) → Shadow code how p i e t s a → access (class_at code i) ≡ Some c
+  pub base_same : (i e : ℕ) (s a : List ℕ) (c : MemAccess) → Shadow code completion p i e t s a
+      → access (class_at code i) ≡ Some c
       → (c.base < 31 → uses (class_at code i) c.base ≡ true) → reg a c.base ≡ reg s c.base
   base_same i e s a c h accesses used = ⊎_elim
-      (λ (is : c.base ≡ t.rc). absurd (safe.base p i p c reach h.above accesses (omega arith) h.above (own_set h.counted ∙ ap Some (sym is))))
+      (λ (is : c.base ≡ t.rc).
+      absurd (safe.base p i p c reach h.above accesses (omega arith) h.above (own_set h.counted ∙ ap Some (sym is))))
       (λ (apart : c.base ≡ t.rc → ⊥). ⊎_elim
       (λ (same : reg a c.base ≡ reg s c.base). same)
       (λ (d : Dead code (p + 1) e c.base). dead d)
@@ -186,13 +215,18 @@ module _ (code : List ℕ) (safe : IsSafe code) (how : Completion) (p : ℕ) (t 
       (cases_eq c.base t.rc)
     where
       reach : Shadowed code p i
-      reach = shadowed code p i t word (let up = h.above in omega arith) (λ k low high. h.steady k low (let o = h.order in omega arith))
+      reach =
+          Steady-Shadowed code p i t word (let up = h.above in omega arith)
+          (λ k low high. h.steady k low (let o = h.order in omega arith))
 
       dead : Dead code (p + 1) e c.base → reg a c.base ≡ reg s c.base
       dead d = ⊎_elim
-          (λ (before : d.at < i). absurd (safe.base p i d.at c reach h.above accesses (let low = d.above in omega arith) before d.written))
+          (λ (before : d.at < i).
+          absurd (safe.base p i d.at c reach h.above accesses (let low = d.above in omega arith) before d.written))
           (λ (from : i ≤ d.at). ⊎_elim
-          (λ (low : c.base < 31). let u = used low in let n = d.unused i (let up = h.above in omega arith) from in absurd cc)
+          (λ (low : c.base < 31). let u = used low in
+          let n = d.unused i (let up = h.above in omega arith) from in
+          absurd cc)
           (λ (high : 31 ≤ c.base). ⊎_elim
           (λ (is : c.base ≡ 31). absurd (set_not_31 (class_at code d.at) (d.written ∙ ap Some is)))
           (λ (past : c.base ≡ 31 → ⊥). reg-past a s c.base h.size_too h.size (omega arith))
@@ -201,16 +235,18 @@ module _ (code : List ℕ) (safe : IsSafe code) (how : Completion) (p : ℕ) (t 
           (cases_lt d.at i)
 
   -- the report puts the completed value, and from the word behind the trigger on the registers are alike
-  pub report_alike : (i e : ℕ) (s a : List ℕ) → Shadow code how p i e t s a → Alike code (p + 1) e s (put a t.rc (trigger_value how t a))
+  pub report_alike : (i e : ℕ) (s a : List ℕ) → Shadow code completion p i e t s a
+      → Alike code (p + 1) e s (put a t.rc (trigger_value completion t a))
   report_alike i e s a h = record {
     order = let up = h.above in let o = h.order in omega arith;
     size = h.size;
-    size_too = length-put a t.rc (trigger_value how t a) ∙ h.size_too;
+    size_too = length-put a t.rc (trigger_value completion t a) ∙ h.size_too;
     registers = λ r. ⊎_elim
-        (λ (is : r ≡ t.rc). inl (ap (λ k. reg (put a t.rc (trigger_value how t a)) k) is
-        ∙ (reg-put_same a t.rc (trigger_value how t a) h.counted h.size_too ∙ (h.value ∙ ap (λ k. reg s k) (sym is)))))
+        (λ (is : r ≡ t.rc). inl (ap (λ k. reg (put a t.rc (trigger_value completion t a)) k) is
+        ∙ (reg-put_same a t.rc (trigger_value completion t a) h.counted h.size_too
+        ∙ (h.value ∙ ap (λ k. reg s k) (sym is)))))
         (λ (apart : r ≡ t.rc → ⊥). ⊎_elim
-        (λ (same : reg a r ≡ reg s r). inl (reg-put_other a t.rc r (trigger_value how t a) apart ∙ same))
+        (λ (same : reg a r ≡ reg s r). inl (reg-put_other a t.rc r (trigger_value completion t a) apart ∙ same))
         (λ (d : Dead code (p + 1) e r). inr d)
         (h.registers r apart))
         (cases_eq r t.rc);

@@ -1,17 +1,18 @@
 -- The mask of a pending trap: it has the trigger's destination, and only destinations of triggers on the way.
-use Rattle.std.proofs.Common.{◌≡◌, ◌≢◌, ◌<◌, ◌≤◌, ◌+◌, ◌%◌, ◌^◌, ◌⊎◌, ℕ, Bool, true, false, cond, eqb, bit_or, Option, Some, None, refl, sym, ap, subst, ◌∙◌, ⊎_elim, inl, inr, arith}
+use Rattle.std.proofs.Common.{◌≡◌, ◌≢◌, ◌<◌, ◌≤◌, ◌+◌, ◌%◌, ◌^◌, ◌⊎◌, ℕ, Bool, true, false, cond, eqb, bit_or, Option}
+use Rattle.std.proofs.Common.{Some, None, refl, sym, ap, subst, ◌∙◌, ⊎_elim, inl, inr, arith}
 use Rattle.std.specs.Prelude.{unwrap_or}
 use Rattle.std.proofs.lemmas.Bool.{cases_eq, cases_lt, eqb-true}
 use Rattle.std.proofs.lemmas.Nat.Bits.{bit_at-pow_same, bit_at-pow_other, bit_at-zero}
 use Rattle.alpha_words.specs.Regs.{Has}
-use Rattle.alpha_words.proofs.Members.{Has-or}
+use Rattle.alpha_words.proofs.SetMembers.{Has-or}
 use Rattle.alpha_table.specs.Class.{Class}
 use Rattle.alpha_table.specs.Code.{class_at, trap_rc}
 use Rattle.alpha_image.specs.Parts.{IsImage, place_of}
 use Rattle.alpha_seq.specs.State.{Program, State}
-use Rattle.alpha_imprecise.specs.Moment.{with_register, Choice, Moment}
-use Rattle.alpha_imprecise.specs.Step.{destination, triggered, address_at, spoilt, waited}
-use Rattle.alpha_imprecise.specs.Wild.{mask_after}
+use Rattle.alpha_imprecise.specs.StepResult.{with_register, Choice, StepResult}
+use Rattle.alpha_imprecise.specs.Step.{destination, triggered, address_at, unpredictable_state, waited}
+use Rattle.alpha_imprecise.specs.ImpreciseState.{mask_after}
 use Rattle.alpha_restart.specs.Safe.{IsSafe, is_steady}
 use Rattle.alpha_restart.specs.Trigger.{Trigger, trigger_word}
 use Rattle.alpha_restart.specs.Invariant.{Trail}
@@ -67,7 +68,8 @@ module _ (g : Program) (good : IsImage g.image) (safe : IsSafe g.image.words) wh
       omega arith
 
   -- at the trigger
-  pub trail_start : (q : ℕ) (t : Trigger) (s : State) (c : Choice) → class_at g.image.words q ≡ trigger_word t → s.pc ≡ address_at g.image q
+  pub trail_start : (q : ℕ) (t : Trigger) (s : State) (c : Choice) → class_at g.image.words q ≡ trigger_word t
+      → s.pc ≡ address_at g.image q
       → Trail g q (q + 1) (triggered g (trigger_word t) s c)
   trail_start q t s c word at =
       let here : is_steady (class_at g.image.words q) ≡ true = ap is_steady word in
@@ -81,7 +83,8 @@ module _ (g : Program) (good : IsImage g.image) (safe : IsSafe g.image.words) wh
         going = refl;
         silent = refl;
         above = omega arith;
-        steady = λ k from to. subst (λ j. is_steady (class_at g.image.words j) ≡ true) (let same : q ≡ k = omega arith in same) here;
+        steady = λ k from to.
+            subst (λ j. is_steady (class_at g.image.words j) ≡ true) (let same : q ≡ k = omega arith in same) here;
         destination = ap trap_rc word;
         counted = counted q t word;
         has = with_has 0 t.rc (counted q t word);
@@ -92,8 +95,9 @@ module _ (g : Program) (good : IsImage g.image) (safe : IsSafe g.image.words) wh
       }
 
   -- over a word that waits
-  pub trail_on : (p i : ℕ) (w : Moment) (c : Choice) (h : Trail g p i w) → is_steady (class_at g.image.words i) ≡ true
-      → (spoilt (class_at g.image.words i) w.state c).pc ≡ (w.state.pc + 4) % 2 ^ 64
+  pub trail_on : (p i : ℕ) (w : StepResult) (c : Choice) (h : Trail g p i w)
+      → is_steady (class_at g.image.words i) ≡ true
+      → (unpredictable_state (class_at g.image.words i) w.state c).pc ≡ (w.state.pc + 4) % 2 ^ 64
       → Trail g p (i + 1) (waited (class_at g.image.words i) w.state (record { place = p; mask = h.mask }) c)
   trail_on p i w c h here moved =
       let low = steady_within g.image.words i here in
@@ -108,7 +112,8 @@ module _ (g : Program) (good : IsImage g.image) (safe : IsSafe g.image.words) wh
         above = omega arith;
         steady = λ k from to. ⊎_elim
             (λ (before : k < i). h.steady k from before)
-            (λ (past : i ≤ k). subst (λ j. is_steady (class_at g.image.words j) ≡ true) (let same : i ≡ k = omega arith in same) here)
+            (λ (past : i ≤ k).
+            subst (λ j. is_steady (class_at g.image.words j) ≡ true) (let same : i ≡ k = omega arith in same) here)
             (cases_lt k i);
         destination = h.destination;
         counted = h.counted;
@@ -120,13 +125,19 @@ module _ (g : Program) (good : IsImage g.image) (safe : IsSafe g.image.words) wh
       has_by true = still_has h.mask (destination (class_at g.image.words i)) h.rc h.has
       has_by false = h.has
 
-      old : (r : ℕ) → r < 31 → Has h.mask r → (k : ℕ) × (p ≤ k) × (k < i + 1) × (trap_rc (class_at g.image.words k) ≡ Some r)
+      old : (r : ℕ) → r < 31 → Has h.mask r
+          → (k : ℕ) × (p ≤ k) × (k < i + 1) × (trap_rc (class_at g.image.words k) ≡ Some r)
       old r small f = let d = h.covers r small f in let below : d.0 < i = d.2 in (d.0, d.1, omega arith, d.3)
 
       covers_by : (b : Bool) (r : ℕ) → r < 31 → Has (mask_after (class_at g.image.words i) h.mask b) r
           → (k : ℕ) × (p ≤ k) × (k < i + 1) × (trap_rc (class_at g.image.words k) ≡ Some r)
       covers_by true r small f = ⊎_elim
           (λ (q : Has h.mask r). old r small q)
-          (λ (same : r ≡ destination (class_at g.image.words i)). (i, (let above = h.above in omega arith), omega arith, destination_is (class_at g.image.words i) r small same))
+          (λ (same : r ≡ destination (class_at g.image.words i)). (
+            i,
+            (let above = h.above in omega arith),
+            omega arith,
+            destination_is (class_at g.image.words i) r small same,
+          ))
           (with_only h.mask (destination (class_at g.image.words i)) r f)
       covers_by false r small f = old r small f

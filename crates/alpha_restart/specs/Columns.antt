@@ -7,7 +7,8 @@ use Rattle.alpha_table.specs.Class.{Class, barrier}
 use Rattle.alpha_table.specs.Uses.{sets, uses}
 use Rattle.alpha_seq.specs.State.{Event, Barriered, Stepped}
 
--- A PALcode call, which has no columns since no shadow goes past it, answers in R0 and R19, and reads R0 and R16 to R18.
+-- A PALcode call, which has no columns since no shadow goes past it, answers in R0 and R19, and reads R0 and R16 to
+-- R18.
 abbrev pub answer_registers : Option Class → List ℕ
 answer_registers (Some (barrier (Some call))) = 0 ∷ 19 ∷ []
 answer_registers class = []

@@ -42,7 +42,8 @@ intent_of _ = Load
 -- no word in [from, at) sets the base of the access at a place, and the access does not fault
 pub record Reached (code : List ℕ) (from at : ℕ) (c : MemAccess) (regs : List ℕ) (blocks : List Shape) : Type 0 where
   pub base : (k : ℕ) → from ≤ k → k < at → sets (class_at code k) ≢ Some c.base
-  pub granted : fault_of blocks (intent_of (kind (class_at code at))) (access_address c (reg regs c.base)) c.bytes ≡ None
+  pub granted : fault_of blocks (intent_of (kind (class_at code at))) (access_address c (reg regs c.base)) c.bytes
+      ≡ None
 
 -- a store in [from, to) writes the byte, and no load from `from` up to that one reads it
 pub record DeadByte (code : List ℕ) (from to : ℕ) (regs : List ℕ) (y : ℕ) : Type 0 where

@@ -9,14 +9,15 @@ use Rattle.alpha_seq.specs.declared.end.End.TheVariants.{Overflow}
 use Rattle.alpha_seq.specs.State.{Program, Ends, Stepped}
 use Rattle.alpha_seq.specs.Start.{start}
 use Rattle.alpha_seq.specs.Run.{begins, Runs}
-use Rattle.alpha_imprecise.specs.Moment.{Happening, Precisely, Moment}
+use Rattle.alpha_imprecise.specs.StepResult.{ImpreciseEvent, Precisely, StepResult}
 use Rattle.alpha_restart.specs.Table.{IsChoice}
-use Rattle.alpha_imprecise.specs.Run.{choice_of, seen, begins_wild, RunsWild}
+use Rattle.alpha_imprecise.specs.Run.{choice_of, seen, imprecise_start, RunsImprecisely}
 use Rattle.alpha_imprecise.specs.Restart.{IsRestartable}
 
 -- no place is broken under any other condition
 abbrev pub IsAcceptedBut : Condition → List ℕ → Type 0
-IsAcceptedBut condition code = (trigger at : ℕ) (other : Condition) → other ≢ condition → IsBroken code trigger at other → ⊥
+IsAcceptedBut condition code =
+    (trigger at : ℕ) (other : Condition) → other ≢ condition → IsBroken code trigger at other → ⊥
 
 -- a good image that a checker without the condition would accept, and that can't be restarted
 pub record Needs (condition : Condition) : Type 0 where
@@ -25,19 +26,21 @@ pub record Needs (condition : Condition) : Type 0 where
   pub accepted : IsAcceptedBut condition image.words
   pub fails : IsRestartable image → ⊥
 
--- An accepted image and a run by which an overflow stops both machines with another value in a register. Nothing but values
--- and bytes that fit registers was chosen.
+-- An accepted image and a run by which an overflow stops both machines with another value in a register. Nothing but
+-- values and bytes that fit registers was chosen.
 pub record StopsApart : Type 0 where
   pub image : Parts
   pub good : IsImage image
   pub accepted : IsAccepted image.words
-  pub steps : List Happening
+  pub steps : List ImpreciseEvent
   pub small : All (λ h. IsChoice (choice_of h)) steps
-  pub w : Moment
-  pub runs : let g : Program = record { image = image; how = Stop } in RunsWild g (begins_wild (start g)) steps w
+  pub w : StepResult
+  pub runs : let g : Program = record { image = image; completion = Stop } in
+      RunsImprecisely g (imprecise_start (start g)) steps w
   pub at : ℕ
-  pub stopped : w.happened ≡ Precisely (Ends (Overflow at))
+  pub stopped : w.last_event ≡ Precisely (Ends (Overflow at))
   pub last : Stepped
-  pub follows : let g : Program = record { image = image; how = Stop } in Runs g (begins (start g)) (seen steps) last
+  pub follows : let g : Program = record { image = image; completion = Stop } in
+      Runs g (begins (start g)) (seen steps) last
   pub register : ℕ
   pub apart : reg w.state.regs register ≢ reg last.state.regs register

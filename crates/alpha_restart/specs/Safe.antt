@@ -21,7 +21,8 @@ pub record IsSafe (code : List ℕ) : Type 0 where
   pub zero : (p : ℕ) → trap_rc (class_at code p) ≢ Some 31
   pub source : (p i j r : ℕ) → Shadowed code p i → p ≤ j → j ≤ i → sets (class_at code i) ≡ Some r
       → uses (class_at code j) r ≡ true → ((k : ℕ) → p ≤ k → k < j → sets (class_at code k) ≢ Some r) → ⊥
-  pub same : (p i c : ℕ) → Shadowed code p i → p < i → trap_rc (class_at code p) ≡ Some c → trap_rc (class_at code i) ≢ Some c
+  pub same : (p i c : ℕ) → Shadowed code p i → p < i → trap_rc (class_at code p) ≡ Some c
+      → trap_rc (class_at code i) ≢ Some c
   pub base : (p i k : ℕ) (a : MemAccess) → Shadowed code p i → p < i → access (class_at code i) ≡ Some a → p ≤ k → k < i
       → sets (class_at code k) ≢ Some a.base
   pub meets : (p i j : ℕ) (a b : MemAccess) → Shadowed code p i → kind (class_at code i) ≡ Some kinds.Store

@@ -19,4 +19,4 @@ abbrev pub trigger_word : Trigger → Option Class
 trigger_word t = Some (trigger t.op t.ra t.src t.rc)
 
 abbrev pub trigger_value : Completion → Trigger → List ℕ → ℕ
-trigger_value how t regs = completed_of t.op (reg regs t.ra) (source_value regs t.src) how
+trigger_value completion t regs = completed_of t.op (reg regs t.ra) (source_value regs t.src) completion

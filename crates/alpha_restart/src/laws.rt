@@ -9,8 +9,8 @@ ghost use Rattle.alpha_shadow.specs.Broken.{IsAccepted};
 ghost use Rattle.alpha_shadow.specs.Least.{condition_number};
 ghost use Rattle.alpha_seq.specs.State.{Program, State};
 ghost use Rattle.alpha_seq.specs.Step.{step};
-ghost use Rattle.alpha_imprecise.specs.Moment.{Trap, Choice, Moment};
-ghost use Rattle.alpha_imprecise.specs.Step.{wild};
+ghost use Rattle.alpha_imprecise.specs.StepResult.{Trap, Choice, StepResult};
+ghost use Rattle.alpha_imprecise.specs.Step.{imprecise_step};
 ghost use Rattle.alpha_imprecise.specs.Restart.{IsRestartable, NeverLoses};
 ghost use Rattle.alpha_restart.specs.Safe.{IsSafe};
 ghost use Rattle.alpha_restart.specs.Columns.{MayWrite, AgreeFor, GoAlike};
@@ -59,12 +59,12 @@ pub fn laws_of_restarted_runs()
 /// its destination; with a trap pending the report at any place, or a word of each class executed, with
 /// any value and any bytes.
 pub fn laws_of_imprecise_steps()
-    ensures row { (g : Program) (s : State) (pending : Option Trap) (input : List ℕ) (m : Moment)
+    ensures row { (g : Program) (s : State) (pending : Option Trap) (input : List ℕ) (m : StepResult)
         → Row g s pending input m
-        → (c : Choice) × IsChoice c × (unchosen (wild g s pending c input) ≡ m) }
+        → (c : Choice) × IsChoice c × (unchosen (imprecise_step g s pending c input) ≡ m) }
     ensures choice { (g : Program) (s : State) (pending : Option Trap) (input : List ℕ)
         (c : Choice) → IsChoice c
-        → Row g s pending input (unchosen (wild g s pending c input)) }
+        → Row g s pending input (unchosen (imprecise_step g s pending c input)) }
 {}
 
 /// The laws of columns: what the checker reads of a word is what the machine does. A step changes no

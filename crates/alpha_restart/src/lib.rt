@@ -22,12 +22,12 @@
 //! `Invariant.antt` how two runs stand to each other after each step.
 //!
 //! The proofs, lowest first: `Safety.antt` (accepted code is safe), `Words.antt`, `Registers.antt`
-//! and `Places.antt` (the code, its registers and its addresses), `Reading.antt`, `Alike.antt`,
-//! `Bytes.antt`, `Accesses.antt` and `Advancing.antt` (one precise step in both machines),
-//! `Shadows.antt`, `Spoiling.antt` and `Trails.antt` (registers, bytes and the mask while a trap is
-//! pending), `Precise.antt`, `Together.antt`, `Syncing.antt`, `Waiting.antt` and `Reporting.antt`
-//! (each kind of step has the invariant hold), `Starting.antt` (the start) and `Agreeing.antt` (it
-//! holds after every run, and the law). `Losing.antt` has that no trap is lost. `Columns.antt` has the
+//! and `Places.antt` (the code, its registers and its addresses), `SourcesAlike.antt`, `Alike.antt`,
+//! `Bytes.antt`, `Accesses.antt` and `MatchedSteps.antt` (one precise step in both machines),
+//! `Shadows.antt`, `UnpredictableBytes.antt` and `Trails.antt` (registers, bytes and the mask while a trap is
+//! pending), `Precise.antt`, `Together.antt`, `Resynchronization.antt`, `UnpredictableSteps.antt` and
+//! `PendingSteps.antt` (each kind of step has the invariant hold), `StartState.antt` (the start) and `Agreement.antt`
+//! (it holds after every run, and the law). `NoTrapLost.antt` has that no trap is lost. `Columns.antt` has the
 //! laws of columns, `Rows.antt` and `Walks.antt` the table, `Fine.antt` a test for broken places and
 //! `Needed.antt` an image for each condition. What follows for runs is proved in `alpha_imprecise`
 //! (`proofs/Showing.antt`).

@@ -1,5 +1,6 @@
 -- The lines of code words read back.
-use Rattle.std.proofs.Common.{◌≡◌, ℕ, pos, negsuc, suc, zero, ◌+◌, ◌*◌, ◌≤◌, List, [], ◌∷◌, ◌++◌, length, map, All, Bool, true, ◌&&◌, nat_le, refl, length-append, arith}
+use Rattle.std.proofs.Common.{◌≡◌, ℕ, pos, negsuc, suc, zero, ◌+◌, ◌*◌, ◌≤◌, List, [], ◌∷◌, ◌++◌, length, map, All}
+use Rattle.std.proofs.Common.{Bool, true, ◌&&◌, nat_le, refl, length-append, arith}
 use Rattle.std.specs.List.{list_all, filter_map}
 use Rattle.std.specs.Char.{is_ascii_alphabetic}
 use Rattle.std.proofs.lemmas.Bool.Decides.{nat_tests}
@@ -15,16 +16,16 @@ use Rattle.alpha_table.specs.Op.{op_row}
 use Rattle.alpha_table.specs.Row.{IsInsn}
 use Rattle.alpha_table.specs.Names.{name_of, mnemonic_of}
 use Rattle.alpha_table.specs.Decoded.{decoded}
-use Rattle.alpha_table.proofs.Decoding.{Row-decoded, IsInsn-Row}
+use Rattle.alpha_table.proofs.DecodedInsns.{Row-decoded, IsInsn-Row}
 use Rattle.alpha_token.specs.Bytes.{goes_on_name}
 use Rattle.alpha_text.specs.Statements as says
 use Rattle.alpha_text.specs.Canon.{Word, reg, num, mark, spelled, spell, source_words, words_of, behind_name, canon}
 use Rattle.alpha_text.proofs.Names.{name_of-short, name_of-word}
 use Rattle.alpha_text.proofs.Round.{reads_back}
-use Rattle.alpha_text.proofs.Spelling.{is_word}
+use Rattle.alpha_text.proofs.CanonicalTokens.{is_word}
 use Rattle.alpha_image.specs.Parts.{IsCodeWord}
 use Rattle.alpha_dis.specs.Listing.{code_line}
-use Rattle.alpha_round.proofs.Cut.{is_inside, AreInside, inside-append}
+use Rattle.alpha_round.proofs.JoinedLines.{is_inside, AreInside, inside-append}
 use Rattle.alpha_round.proofs.Digits.{decimal-short, decimal-inside}
 use Rattle.alpha_round.proofs.Plain.{IsLineOf, Say}
 use Rattle.alpha_round.proofs.Program.{one_insn}
@@ -40,7 +41,8 @@ is_fine (mark b) = is_inside b
 abbrev are_fine : List Word → Bool
 are_fine ws = nat_le (length ws) 8 && list_all is_fine ws
 
-source_fine : (rule : OperandRule) (ra : ℕ) (src : Src) (rc : ℕ) → are_fine (source_words rule ra src ++ (reg rc ∷ [])) ≡ true
+source_fine : (rule : OperandRule) (ra : ℕ) (src : Src) (rc : ℕ)
+    → are_fine (source_words rule ra src ++ (reg rc ∷ [])) ≡ true
 source_fine Any ra (Reg r) rc = refl
 source_fine Any ra (Lit n) rc = refl
 source_fine Unary ra (Reg r) rc = refl
@@ -77,7 +79,9 @@ spell_short (w ∷ ws) = omega (arith, word_short w, spell_short ws, length-appe
 
 spell_inside : (ws : List Word) → list_all is_fine ws ≡ true → AreInside (spell ws)
 spell_inside [] h = refl
-spell_inside (w ∷ ws) h = let (a, b) = and_parts (is_fine w) (list_all is_fine ws) h in inside-append (spelled w) (spell ws) (word_inside w a) (spell_inside ws b)
+spell_inside (w ∷ ws) h =
+    let (a, b) = and_parts (is_fine w) (list_all is_fine ws) h in
+    inside-append (spelled w) (spell ws) (word_inside w a) (spell_inside ws b)
 
 behind_short : (ws : List Word) → length (behind_name ws) ≤ 1 + 65 * length ws
 behind_short [] = omega arith
@@ -97,11 +101,15 @@ byte_inside b h = grind (arith, nat_tests)
 
 bytes_inside : (l : List ℕ) → list_all goes_on_name l ≡ true → AreInside l
 bytes_inside [] h = refl
-bytes_inside (b ∷ l) h = let (a, k) = and_parts (goes_on_name b) (list_all goes_on_name l) h in rw (byte_inside b a, bytes_inside l k) refl
+bytes_inside (b ∷ l) h =
+    let (a, k) = and_parts (goes_on_name b) (list_all goes_on_name l) h in
+    rw (byte_inside b a, bytes_inside l k) refl
 
 name_inside : (l : List ℕ) → is_word l ≡ true → AreInside l
 name_inside [] h = refl
-name_inside (b ∷ l) h = let (a, k) = and_parts (is_ascii_alphabetic b) (list_all goes_on_name l) h in rw (letter_inside b a, bytes_inside l k) refl
+name_inside (b ∷ l) h =
+    let (a, k) = and_parts (is_ascii_alphabetic b) (list_all goes_on_name l) h in
+    rw (letter_inside b a, bytes_inside l k) refl
 
 -- ---- the line
 
@@ -111,13 +119,22 @@ canon_line i h =
     let (few, fine) = and_parts (nat_le (length (words_of i)) 8) (list_all is_fine (words_of i)) (words_fine i) in
     let most : length (words_of i) ≤ 8 = grind (arith, nat_tests) in
     record {
-      short = omega (arith, name_of-short (mnemonic_of i), behind_short (words_of i), length-append (name_of (mnemonic_of i)) (behind_name (words_of i)));
-      inside = inside-append (name_of (mnemonic_of i)) (behind_name (words_of i)) (name_inside (name_of (mnemonic_of i)) (name_of-word (mnemonic_of i))) (behind_inside (words_of i) fine);
+      short = omega (
+        arith,
+        name_of-short (mnemonic_of i),
+        behind_short (words_of i),
+        length-append (name_of (mnemonic_of i)) (behind_name (words_of i)),
+      );
+      inside =
+          inside-append (name_of (mnemonic_of i)) (behind_name (words_of i))
+          (name_inside (name_of (mnemonic_of i)) (name_of-word (mnemonic_of i))) (behind_inside (words_of i) fine);
       says = reads_back i h;
     }
 
-pub code_say : (level : Level) (words : List ℕ) → All (IsCodeWord level) words → Say (map code_line words) (map says.code (filter_map decoded words))
+pub code_say : (level : Level) (words : List ℕ) → All (IsCodeWord level) words
+    → Say (map code_line words) (map says.code (filter_map decoded words))
 code_say level [] h = tt
 code_say level (w ∷ ws) h =
     let (i, e, within) = one_insn level w (h 0 0 (omega arith)) in
-    rw e (canon_line i (IsInsn-Row w i (Row-decoded w i e)), code_say level ws (λ k d l. h (suc k) d (omega (arith, l))))
+    rw e
+    (canon_line i (IsInsn-Row w i (Row-decoded w i e)), code_say level ws (λ k d l. h (suc k) d (omega (arith, l))))

@@ -1,5 +1,6 @@
 -- Statements alone, without labels and without addresses of labels.
-use Rattle.std.proofs.Common.{◌≡◌, ℕ, suc, ◌+◌, ◌%◌, ◌≤◌, List, [], ◌∷◌, ◌++◌, length, map, replicate, All, Bool, true, false, cond, nat_lt, None, Ok, refl, ◌∙◌, ap, arith}
+use Rattle.std.proofs.Common.{◌≡◌, ℕ, suc, ◌+◌, ◌%◌, ◌≤◌, List, [], ◌∷◌, ◌++◌, length, map, replicate, All, Bool, true}
+use Rattle.std.proofs.Common.{false, cond, nat_lt, None, Ok, refl, ◌∙◌, ap, arith}
 use Rattle.std.specs.Prelude.{⊤}
 use Rattle.std.specs.List.{flat_map, filter_map, AllByRecursion}
 use Rattle.std.specs.Result.{result_unwrap_or}
@@ -9,138 +10,159 @@ use Rattle.std.proofs.lemmas.List.{append-nil}
 use Rattle.alpha_words.specs.Digits.{digits}
 use Rattle.alpha_image.specs.Parts.{IsByte}
 use Rattle.alpha_table.specs.declared.form.Form.{Form}
-use Rattle.alpha_text.specs.Statements.{Said}
+use Rattle.alpha_text.specs.Statements.{Stmt}
 use Rattle.alpha_text.specs.Statements as says
-use Rattle.alpha_text.specs.Reading.{LineSaid, read}
+use Rattle.alpha_text.specs.Reading.{LineStmt, read}
 use Rattle.alpha_asm.specs.Statement.{number, cells, coded, align_in}
-use Rattle.alpha_asm.specs.Layout.{Place, Placed, Fields, placed, layout, end, behind, behind_all, fields, with_fields, is_misplaced, repeats_field}
+use Rattle.alpha_asm.specs.Layout.{Place, Placed, Fields, placed, layout, end, place_after, behind_all, fields}
+use Rattle.alpha_asm.specs.Layout.{with_fields, is_misplaced, repeats_field}
 use Rattle.alpha_asm.specs.Program.{Known, names_in, entry_names, cell_name, code_in, bytes_in, cell_bytes}
 use Rattle.alpha_asm.specs.declared.kind.SourceKind.TheVariants as source_kinds
 use Rattle.alpha_asm.specs.Assembled.{item_at, refused, first_refused}
-use Rattle.alpha_asm.proofs.Growing.{item_behind, end-snoc, layout-snoc, first-snoc}
+use Rattle.alpha_asm.proofs.NextItem.{item_behind, end-snoc, layout-snoc, first-snoc}
 use Rattle.alpha_round.proofs.Items.{plain, row_statement}
-use Rattle.alpha_round.proofs.Cut.{AreInside}
+use Rattle.alpha_round.proofs.JoinedLines.{AreInside}
 use Rattle.alpha_round.proofs.Rows.{row_cells}
 
 -- the place behind statements
-abbrev pub place_behind : Place → List Said → Place
+abbrev pub place_behind : Place → List Stmt → Place
 place_behind p [] = p
-place_behind p (s ∷ ss) = place_behind (behind p s) ss
+place_behind p (s ∷ ss) = place_behind (place_after p s) ss
 
-pub behind_all-plain : (p : Place) (ss : List Said) → behind_all p (map plain ss) ≡ place_behind p ss
+pub behind_all-plain : (p : Place) (ss : List Stmt) → behind_all p (map plain ss) ≡ place_behind p ss
 behind_all-plain p [] = refl
-behind_all-plain p (s ∷ ss) = behind_all-plain (behind p s) ss
+behind_all-plain p (s ∷ ss) = behind_all-plain (place_after p s) ss
 
-pub place_behind-append : (p : Place) (ss ts : List Said) → place_behind p (ss ++ ts) ≡ place_behind (place_behind p ss) ts
+pub place_behind-append : (p : Place) (ss ts : List Stmt)
+    → place_behind p (ss ++ ts) ≡ place_behind (place_behind p ss) ts
 place_behind-append p [] ts = refl
-place_behind-append p (s ∷ ss) ts = place_behind-append (behind p s) ss ts
+place_behind-append p (s ∷ ss) ts = place_behind-append (place_after p s) ss ts
 
 -- none of the statements is misplaced, from a place on
-abbrev pub Fit : Place → List Said → Type 0
+abbrev pub Fit : Place → List Stmt → Type 0
 Fit p [] = ⊤
-Fit p (s ∷ ss) = (is_misplaced p s ≡ false) × Fit (behind p s) ss
+Fit p (s ∷ ss) = (is_misplaced p s ≡ false) × Fit (place_after p s) ss
 
-pub Fit-append : (p : Place) (ss ts : List Said) → Fit p ss → Fit (place_behind p ss) ts → Fit p (ss ++ ts)
+pub Fit-append : (p : Place) (ss ts : List Stmt) → Fit p ss → Fit (place_behind p ss) ts → Fit p (ss ++ ts)
 Fit-append p [] ts f g = g
-Fit-append p (s ∷ ss) ts (m, f) g = (m, Fit-append (behind p s) ss ts f g)
+Fit-append p (s ∷ ss) ts (m, f) g = (m, Fit-append (place_after p s) ss ts f g)
 
 -- none of the statements says a field for the second time
-abbrev pub Single : Fields → List Said → Type 0
+abbrev pub Single : Fields → List Stmt → Type 0
 Single f [] = ⊤
 Single f (s ∷ ss) = (repeats_field f s ≡ false) × Single (with_fields f s) ss
 
-pub Single-append : (f : Fields) (ss ts : List Said) → Single f ss → ((g : Fields) → Single g ts) → Single f (ss ++ ts)
+pub Single-append : (f : Fields) (ss ts : List Stmt) → Single f ss → ((g : Fields) → Single g ts) → Single f (ss ++ ts)
 Single-append f [] ts u v = v f
 Single-append f (s ∷ ss) ts (d, u) v = (d, Single-append (with_fields f s) ss ts u v)
 
 -- a line that says this statement alone, and stays a line where it is joined with others
-pub record IsLineOf (l : List ℕ) (s : Said) : Type 0 where
+pub record IsLineOf (l : List ℕ) (s : Stmt) : Type 0 where
   pub short : length l ≤ 1024
   pub inside : AreInside l
   pub says : read l ≡ Ok (plain s)
 
 -- lines that say these statements
-abbrev pub Say : List (List ℕ) → List Said → Type 0
+abbrev pub Say : List (List ℕ) → List Stmt → Type 0
 Say [] [] = ⊤
 Say (l ∷ ls) (s ∷ ss) = IsLineOf l s × Say ls ss
 Say _ _ = ⊥
 
-pub Say-append : (ls ms : List (List ℕ)) (ss ts : List Said) → Say ls ss → Say ms ts → Say (ls ++ ms) (ss ++ ts)
+pub Say-append : (ls ms : List (List ℕ)) (ss ts : List Stmt) → Say ls ss → Say ms ts → Say (ls ++ ms) (ss ++ ts)
 Say-append [] ms [] ts a b = b
 Say-append [] ms (s ∷ ss) ts a b = absurd a
 Say-append (l ∷ ls) ms [] ts a b = absurd a
 Say-append (l ∷ ls) ms (s ∷ ss) ts (h, a) b = (h, Say-append ls ms ss ts a b)
 
-pub all_inside : (ls : List (List ℕ)) (ss : List Said) → Say ls ss → AllByRecursion AreInside ls
+pub all_inside : (ls : List (List ℕ)) (ss : List Stmt) → Say ls ss → AllByRecursion AreInside ls
 all_inside [] [] a = tt
 all_inside [] (s ∷ ss) a = absurd a
 all_inside (l ∷ ls) [] a = absurd a
 all_inside (l ∷ ls) (s ∷ ss) (h, a) = (h.inside, all_inside ls ss a)
 
-taken : (is : List LineSaid) (line : List ℕ) (s : Said) → length line ≤ 1024 → read line ≡ Ok (plain s) → is_misplaced (end is) s ≡ false → repeats_field (fields (layout is)) s ≡ false → refused source_kinds.Program is line ≡ None
+taken : (is : List LineStmt) (line : List ℕ) (s : Stmt) → length line ≤ 1024 → read line ≡ Ok (plain s)
+    → is_misplaced (end is) s ≡ false → repeats_field (fields (layout is)) s ≡ false
+    → refused source_kinds.Program is line ≡ None
 unfolding refused
 taken is line s short r m d =
     let t : nat_lt 1024 (length line) ≡ false = grind (arith, nat_tests) in
     rw (t, r, m, d) refl
 
-fields-snoc : (is : List LineSaid) (i : LineSaid) → fields (layout (is ++ i ∷ [])) ≡ with_fields (fields (layout is)) i.statement
+fields-snoc : (is : List LineStmt) (i : LineStmt)
+    → fields (layout (is ++ i ∷ [])) ≡ with_fields (fields (layout is)) i.statement
 fields-snoc is i = ap fields (layout-snoc is i) ∙ one (layout is) (item_behind is i)
   where
     one : (xs : List Placed) (x : Placed) → fields (xs ++ x ∷ []) ≡ with_fields (fields xs) x.item.statement
     one xs x = simp first-snoc
 
-pub none_refused : (is : List LineSaid) (ls : List (List ℕ)) (ss : List Said) → Say ls ss → Fit (end is) ss → Single (fields (layout is)) ss → (first_refused source_kinds.Program is ls ≡ None) × (map item_at ls ≡ map plain ss)
+pub none_refused : (is : List LineStmt) (ls : List (List ℕ)) (ss : List Stmt)
+    → Say ls ss → Fit (end is) ss → Single (fields (layout is)) ss
+    → (first_refused source_kinds.Program is ls ≡ None) × (map item_at ls ≡ map plain ss)
 none_refused is [] [] say f u = (refl, refl)
 none_refused is [] (s ∷ ss) say f u = absurd say
 none_refused is (l ∷ ls) [] say f u = absurd say
 none_refused is (l ∷ ls) (s ∷ ss) (line, say) (m, f) (d, u) =
-    let at : item_at l ≡ plain s = ap (λ r. result_unwrap_or r (record { label = None; statement = says.empty })) line.says in
+    let at : item_at l ≡ plain s =
+    ap (λ r. result_unwrap_or r (record { label = None; statement = says.empty })) line.says in
     let none : refused source_kinds.Program is l ≡ None = taken is l s line.short line.says m d in
-    let (rest, items) = none_refused (is ++ plain s ∷ []) ls ss say (rw (end-snoc is (plain s)) f) (rw (fields-snoc is (plain s)) u) in
+    let (rest, items) =
+    none_refused (is ++ plain s ∷ []) ls ss say (rw (end-snoc is (plain s)) f) (rw (fields-snoc is (plain s)) u) in
     (rw (none, at) rest, rw at (ap (λ l. plain s ∷ l) items))
 
 -- what statements make, wherever they stand
-pub record Make (ss : List Said) (insns : List Form) (bytes : List ℕ) : Type 0 where
+pub record MakesProgram (ss : List Stmt) (insns : List Form) (bytes : List ℕ) : Type 0 where
   pub code : (k : Known) (p : Place) (n : ℕ) → flat_map (code_in k) (placed p n (map plain ss)) ≡ insns
   pub data_bytes : (k : Known) (p : Place) (n : ℕ) → flat_map (bytes_in k) (placed p n (map plain ss)) ≡ bytes
   pub names : (p : Place) (n : ℕ) → flat_map names_in (placed p n (map plain ss)) ≡ []
 
-placed-append : (p : Place) (n : ℕ) (ss ts : List Said) → placed p n (map plain (ss ++ ts)) ≡ placed p n (map plain ss) ++ placed (place_behind p ss) (n + length ss) (map plain ts)
+placed-append : (p : Place) (n : ℕ) (ss ts : List Stmt)
+    → placed p n (map plain (ss ++ ts))
+    ≡ placed p n (map plain ss) ++ placed (place_behind p ss) (n + length ss) (map plain ts)
 placed-append p n [] ts = ap (λ (m : ℕ). placed p m (map plain ts)) (omega arith)
 placed-append p n (s ∷ ss) ts =
     let m : n + 1 + length ss ≡ n + suc (length ss) = omega arith in
-    ap (λ xs. record { place = p; line = n; item = plain s } ∷ xs) (placed-append (behind p s) (n + 1) ss ts ∙ ap (λ (m : ℕ). placed (behind p s) (n + 1) (map plain ss) ++ placed (place_behind (behind p s) ss) m (map plain ts)) m)
+    ap (λ xs. record { place = p; line = n; item = plain s } ∷ xs)
+    (placed-append (place_after p s) (n + 1) ss ts ∙ ap (λ (m : ℕ). placed (place_after p s) (n + 1) (map plain ss)
+    ++ placed (place_behind (place_after p s) ss) m (map plain ts)) m)
 
-both : {X : Type 0} (f : Placed → List X) (p : Place) (n : ℕ) (ss ts : List Said) (a b : List X) → flat_map f (placed p n (map plain ss)) ≡ a → flat_map f (placed (place_behind p ss) (n + length ss) (map plain ts)) ≡ b
+both : {X : Type 0} (f : Placed → List X) (p : Place) (n : ℕ) (ss ts : List Stmt) (a b : List X)
+    → flat_map f (placed p n (map plain ss)) ≡ a
+    → flat_map f (placed (place_behind p ss) (n + length ss) (map plain ts)) ≡ b
     → flat_map f (placed p n (map plain (ss ++ ts))) ≡ a ++ b
 both f p n ss ts a b e g =
     ap (flat_map f) (placed-append p n ss ts)
     ∙ (flat_map-append f (placed p n (map plain ss)) (placed (place_behind p ss) (n + length ss) (map plain ts))
     ∙ (ap (λ l. l ++ flat_map f (placed (place_behind p ss) (n + length ss) (map plain ts))) e ∙ ap (λ l. a ++ l) g))
 
-pub make_both : (ss ts : List Said) (insns more : List Form) (bytes rest : List ℕ) → Make ss insns bytes → Make ts more rest → Make (ss ++ ts) (insns ++ more) (bytes ++ rest)
+pub make_both : (ss ts : List Stmt) (insns more : List Form) (bytes rest : List ℕ) → MakesProgram ss insns bytes
+    → MakesProgram ts more rest → MakesProgram (ss ++ ts) (insns ++ more) (bytes ++ rest)
 make_both ss ts insns more bytes rest a b = record {
   code = λ k p n. both (code_in k) p n ss ts insns more (a.code k p n) (b.code k (place_behind p ss) (n + length ss));
-  data_bytes = λ k p n. both (bytes_in k) p n ss ts bytes rest (a.data_bytes k p n) (b.data_bytes k (place_behind p ss) (n + length ss));
+  data_bytes = λ k p n.
+      both (bytes_in k) p n ss ts bytes rest (a.data_bytes k p n) (b.data_bytes k (place_behind p ss) (n + length ss));
   names = λ p n. both names_in p n ss ts [] [] (a.names p n) (b.names (place_behind p ss) (n + length ss));
 }
 
-pub make_same : (ss : List Said) (insns : List Form) (bytes rest : List ℕ) → Make ss insns bytes → bytes ≡ rest → Make ss insns rest
-make_same ss insns bytes rest m e = record { code = m.code; data_bytes = λ k p n. m.data_bytes k p n ∙ e; names = m.names }
+pub make_same : (ss : List Stmt) (insns : List Form) (bytes rest : List ℕ) → MakesProgram ss insns bytes → bytes ≡ rest
+    → MakesProgram ss insns rest
+make_same ss insns bytes rest m e =
+    record { code = m.code; data_bytes = λ k p n. m.data_bytes k p n ∙ e; names = m.names }
 
-pub make_none : Make [] [] []
+pub make_none : MakesProgram [] [] []
 make_none = record { code = λ k p n. refl; data_bytes = λ k p n. refl; names = λ p n. refl }
 
 none : (b : Bool) → replicate {A = ℕ} (cond {A = ℕ} b 0 0) 0 ≡ []
 none true = refl
 none false = refl
 
-pub make_insn : (i : Form) → Make (says.code i ∷ []) (i ∷ []) []
+pub make_insn : (i : Form) → MakesProgram (says.code i ∷ []) (i ∷ []) []
 unfolding cells
-make_insn i = record { code = λ k p n. refl; data_bytes = λ k p n. ap (λ l. l ++ []) (none p.has_zero); names = λ p n. refl }
+make_insn i =
+    record { code = λ k p n. refl; data_bytes = λ k p n. ap (λ l. l ++ []) (none p.has_zero); names = λ p n. refl }
 
 -- a statement that makes nothing
-pub make_silent : (s : Said) → coded s ≡ None → cells s ≡ [] → align_in s ≡ None → ((line : ℕ) → entry_names line s ≡ []) → Make (s ∷ []) [] []
+pub make_silent : (s : Stmt) → coded s ≡ None → cells s ≡ [] → align_in s ≡ None
+    → ((line : ℕ) → entry_names line s ≡ []) → MakesProgram (s ∷ []) [] []
 make_silent s c d a e = record {
   code = λ k p n. rw c refl;
   data_bytes = λ k p n. rw (d, a) (ap (λ l. l ++ []) (none p.has_zero));
@@ -152,20 +174,24 @@ unfolding digits
 numbers_bytes k [] h = refl
 numbers_bytes k (b ∷ row) h =
     let small : b % 256 ≡ b = omega (arith, h 0 0 (omega arith)) in
-    ap (λ c. c ∷ flat_map (cell_bytes k) (map (number 1) row)) small ∙ ap (λ l. b ∷ l) (numbers_bytes k row (λ i d l. h (suc i) d (omega (arith, l))))
+    ap (λ c. c ∷ flat_map (cell_bytes k) (map (number 1) row)) small
+    ∙ ap (λ l. b ∷ l) (numbers_bytes k row (λ i d l. h (suc i) d (omega (arith, l))))
 
 numbers_names : (line : ℕ) (row : List ℕ) → filter_map (cell_name line) (map (number 1) row) ≡ []
 numbers_names line [] = refl
 numbers_names line (b ∷ row) = numbers_names line row
 
-pub make_row : (row : List ℕ) → All IsByte row → Make (row_statement row ∷ []) [] row
+pub make_row : (row : List ℕ) → All IsByte row → MakesProgram (row_statement row ∷ []) [] row
 make_row row b = record {
   code = λ k p n. refl;
-  data_bytes = λ k p n. rw (row_cells row b) (append-nil (flat_map (cell_bytes k) (map (number 1) row) ++ replicate {A = ℕ} (cond {A = ℕ} p.has_zero 0 0) 0)
-      ∙ (ap (λ l. flat_map (cell_bytes k) (map (number 1) row) ++ l) (none p.has_zero) ∙ (append-nil (flat_map (cell_bytes k) (map (number 1) row)) ∙ numbers_bytes k row b)));
+  data_bytes =
+      λ k p n. rw (row_cells row b)
+      (append-nil (flat_map (cell_bytes k) (map (number 1) row) ++ replicate {A = ℕ} (cond {A = ℕ} p.has_zero 0 0) 0)
+      ∙ (ap (λ l. flat_map (cell_bytes k) (map (number 1) row) ++ l) (none p.has_zero)
+      ∙ (append-nil (flat_map (cell_bytes k) (map (number 1) row)) ∙ numbers_bytes k row b)));
   names = λ p n. rw (row_cells row b) (ap (λ l. (l ++ []) ++ []) (numbers_names n row));
 }
 
-pub make_insns : (is : List Form) → Make (map says.code is) is []
+pub make_insns : (is : List Form) → MakesProgram (map says.code is) is []
 make_insns [] = make_none
 make_insns (i ∷ is) = make_both (says.code i ∷ []) (map says.code is) (i ∷ []) is [] [] (make_insn i) (make_insns is)

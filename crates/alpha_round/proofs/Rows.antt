@@ -1,5 +1,6 @@
 -- A row of data bytes reads back.
-use Rattle.std.proofs.Common.{◌≡◌, ℕ, zero, suc, ◌*◌, ◌^◌, ◌<◌, ◌≤◌, List, [], ◌∷◌, ◌++◌, length, map, All, true, nat_le, Some, Ok, decimal, refl, ◌∙◌, ap, length-append, arith}
+use Rattle.std.proofs.Common.{◌≡◌, ℕ, zero, suc, ◌*◌, ◌^◌, ◌<◌, ◌≤◌, List, [], ◌∷◌, ◌++◌, length, map, All, true}
+use Rattle.std.proofs.Common.{nat_le, Some, Ok, decimal, refl, ◌∙◌, ap, length-append, arith}
 use Rattle.std.specs.List.{join_with_byte}
 use Rattle.std.proofs.lemmas.Fmt.{decimal_nonempty, length-decimal-le}
 use Rattle.std.proofs.lemmas.Bool.Decides.{nat_tests}
@@ -16,11 +17,11 @@ use Rattle.alpha_operands.specs.Walk.{follow}
 use Rattle.alpha_operands.specs.Values.{first_value, next_of}
 use Rattle.alpha_operands.specs.Values as listed
 use Rattle.alpha_operands.proofs.Lists.{values-none}
-use Rattle.alpha_text.proofs.Spelling.{token-num, token-comma, number_value-decimal}
+use Rattle.alpha_text.proofs.CanonicalTokens.{token-num, tokens-comma_first, number_value-decimal}
 use Rattle.alpha_image.specs.Parts.{IsByte}
 use Rattle.alpha_asm.specs.Statement.{number, cells, cell_of, values_up_to}
 use Rattle.alpha_round.proofs.Items.{row_statement}
-use Rattle.alpha_round.proofs.Cut.{AreInside, inside-append}
+use Rattle.alpha_round.proofs.JoinedLines.{AreInside, inside-append}
 use Rattle.alpha_round.proofs.Digits.{decimal-inside, decimal-text}
 
 -- the values of a row with commas between them
@@ -44,15 +45,17 @@ head b row h = h 0 0 (omega arith)
 
 -- ---- as operands of a line
 
-pub row_follow : (b : ℕ) (row : List ℕ) (o : Slots) → All IsByte (b ∷ row) → (r : Slots) × (follow (patterns shapes.Bytes) [] signs.Plus (tokens (row_text (b ∷ row))) o ≡ Ok r) × (r.left ≡ 0)
+pub row_follow : (b : ℕ) (row : List ℕ) (o : Slots) → All IsByte (b ∷ row)
+    → (r : Slots) × (follow (patterns shapes.Bytes) [] signs.Plus (tokens (row_text (b ∷ row))) o ≡ Ok r) × (r.left ≡ 0)
 unfolding patterns filled
 row_follow b [] o h =
     let t = decimal-text b (byte_small b (head b [] h)) in
     (record o { number = Some (numbers.Value b); left = 0 }, rw (t.token, byte_is b (head b [] h)) refl, refl)
 row_follow b (c ∷ row) o h =
     let first = token-num b (44 ∷ row_text (c ∷ row)) (byte_small b (head b (c ∷ row) h)) refl in
-    let more = row_follow c row (record o { number = Some (numbers.Value b); left = length (row_text (c ∷ row)) }) (tail b (c ∷ row) h) in
-    (more.0, rw (first, token-comma (row_text (c ∷ row)), byte_is b (head b (c ∷ row) h)) more.1, more.2)
+    let more = row_follow c row (record o { number = Some (numbers.Value b); left = length (row_text (c ∷ row)) })
+    (tail b (c ∷ row) h) in
+    (more.0, rw (first, tokens-comma_first (row_text (c ∷ row)), byte_is b (head b (c ∷ row) h)) more.1, more.2)
 
 -- ---- as values of a list
 
@@ -62,20 +65,29 @@ last_value b h = let t = decimal-text b (byte_small b h) in rw (t.token, byte_is
 
 first_of : (b : ℕ) (rest : List ℕ) → IsByte b → next_of 1 (decimal b ++ (44 ∷ rest)) ≡ Some (listed.number b, rest)
 unfolding first_value patterns filled
-first_of b rest h = rw (token-num b (44 ∷ rest) (byte_small b h) refl, token-comma rest, byte_is b h) refl
+first_of b rest h = rw (token-num b (44 ∷ rest) (byte_small b h) refl, tokens-comma_first rest, byte_is b h) refl
 
-values_all : (n : ℕ) (row : List ℕ) → All IsByte row → length row ≤ n → values_up_to n 1 (row_text row) ≡ map listed.number row
+values_all : (n : ℕ) (row : List ℕ) → All IsByte row → length row ≤ n
+    → values_up_to n 1 (row_text row) ≡ map listed.number row
 values_all zero [] h l = refl
 values_all zero (b ∷ row) h l = absurd (omega arith)
 values_all (suc n) [] h l = rw (values-none 1) refl
-values_all (suc n) (b ∷ []) h l = rw (last_value b (head b [] h)) (ap (λ vs. listed.number b ∷ vs) (values_all n [] (tail b [] h) (omega arith)))
-values_all (suc n) (b ∷ c ∷ row) h l = rw (first_of b (row_text (c ∷ row)) (head b (c ∷ row) h)) (ap (λ vs. listed.number b ∷ vs) (values_all n (c ∷ row) (tail b (c ∷ row) h) (omega arith)))
+values_all (suc n) (b ∷ []) h l =
+    rw (last_value b (head b [] h)) (ap (λ vs. listed.number b ∷ vs) (values_all n [] (tail b [] h) (omega arith)))
+values_all (suc n) (b ∷ c ∷ row) h l =
+    rw (first_of b (row_text (c ∷ row)) (head b (c ∷ row) h))
+    (ap (λ vs. listed.number b ∷ vs) (values_all n (c ∷ row) (tail b (c ∷ row) h) (omega arith)))
 
 -- a value has a byte or more
 long : (row : List ℕ) → All IsByte row → length row ≤ length (row_text row)
 long [] h = omega arith
 long (b ∷ []) h = omega (arith, decimal_nonempty b (byte_small b (head b [] h)))
-long (b ∷ c ∷ row) h = omega (arith, decimal_nonempty b (byte_small b (head b (c ∷ row) h)), long (c ∷ row) (tail b (c ∷ row) h), length-append (decimal b) (44 ∷ row_text (c ∷ row)))
+long (b ∷ c ∷ row) h = omega (
+  arith,
+  decimal_nonempty b (byte_small b (head b (c ∷ row) h)),
+  long (c ∷ row) (tail b (c ∷ row) h),
+  length-append (decimal b) (44 ∷ row_text (c ∷ row)),
+)
 
 cells_all : (row : List ℕ) → map (cell_of 1) (map listed.number row) ≡ map (number 1) row
 cells_all [] = refl
@@ -94,7 +106,12 @@ byte_short b h = length-decimal-le 3 b (omega arith) (omega arith) (byte_small b
 pub row_short : (row : List ℕ) → All IsByte row → length (row_text row) ≤ 4 * length row
 row_short [] h = omega arith
 row_short (b ∷ []) h = omega (arith, byte_short b (head b [] h))
-row_short (b ∷ c ∷ row) h = omega (arith, byte_short b (head b (c ∷ row) h), row_short (c ∷ row) (tail b (c ∷ row) h), length-append (decimal b) (44 ∷ row_text (c ∷ row)))
+row_short (b ∷ c ∷ row) h = omega (
+  arith,
+  byte_short b (head b (c ∷ row) h),
+  row_short (c ∷ row) (tail b (c ∷ row) h),
+  length-append (decimal b) (44 ∷ row_text (c ∷ row)),
+)
 
 pub row_inside : (row : List ℕ) → AreInside (row_text row)
 row_inside [] = refl

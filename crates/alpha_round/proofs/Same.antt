@@ -4,17 +4,18 @@ use Rattle.std.specs.List.{filter_map}
 use Rattle.alpha_words.specs.declared.Level.{Level}
 use Rattle.alpha_table.specs.declared.form.Form.{Form}
 use Rattle.alpha_table.specs.Decoded.{decoded}
-use Rattle.alpha_table.proofs.Decoding.{Row-decoded, same_word}
+use Rattle.alpha_table.proofs.DecodedInsns.{Row-decoded, Row-one_word}
 use Rattle.alpha_image.specs.Parts.{Parts, IsCodeWord, IsImage}
 use Rattle.alpha_asm.specs.Program.{Program, program_of}
 use Rattle.alpha_asm.specs.Assembled.{assembled}
 use Rattle.alpha_dis.specs.Listing.{listing}
 use Rattle.alpha_round.specs.Source.{IsSourceOf}
 use Rattle.alpha_round.proofs.Program.{one_insn}
-use Rattle.alpha_round.proofs.Listing.{assembled-listing}
+use Rattle.alpha_round.proofs.ListingRoundTrip.{assembled-listing}
 
 -- code words of the same instructions are the same
-words_same : (level other : Level) (vs ws : List ℕ) → All (IsCodeWord level) vs → All (IsCodeWord other) ws → filter_map decoded vs ≡ filter_map decoded ws → vs ≡ ws
+words_same : (level other : Level) (vs ws : List ℕ) → All (IsCodeWord level) vs → All (IsCodeWord other) ws
+    → filter_map decoded vs ≡ filter_map decoded ws → vs ≡ ws
 words_same level other [] [] g h e = refl
 words_same level other [] (w ∷ ws) g h e =
     let (j, f, y) = one_insn other w (h 0 0 (omega arith)) in
@@ -31,8 +32,10 @@ words_same level other (v ∷ vs) (w ∷ ws) g h e =
     let first : i ≡ j = cc both in
     let rest : filter_map decoded vs ≡ filter_map decoded ws = cc both in
     let found : decoded w ≡ Some i = f ∙ ap Some (sym first) in
-    let word : v ≡ w = same_word v w i (g 0 0 (omega arith)).0 (h 0 0 (omega arith)).0 (Row-decoded v i d) (Row-decoded w i found) in
-    let more : vs ≡ ws = words_same level other vs ws (λ k n l. g (suc k) n (omega (arith, l))) (λ k n l. h (suc k) n (omega (arith, l))) rest in
+    let word : v ≡ w =
+    Row-one_word v w i (g 0 0 (omega arith)).0 (h 0 0 (omega arith)).0 (Row-decoded v i d) (Row-decoded w i found) in
+    let more : vs ≡ ws = words_same level other vs ws (λ k n l. g (suc k) n (omega (arith, l)))
+    (λ k n l. h (suc k) n (omega (arith, l))) rest in
     cc (word, more)
 
 image_same : (p q : Parts) → IsImage p → IsImage q → program_of p ≡ program_of q → p ≡ q
@@ -44,7 +47,8 @@ image_same p q g h e =
     let stack = ap (λ (r : Program). r.stack) e in
     let segments = ap (λ (r : Program). r.segments) e in
     let bytes = ap (λ (r : Program). r.bytes) e in
-    let words : p.words ≡ q.words = words_same p.level q.level p.words q.words g.words h.words (ap (λ (r : Program). r.code) e) in
+    let words : p.words ≡ q.words =
+    words_same p.level q.level p.words q.words g.words h.words (ap (λ (r : Program). r.code) e) in
     λ i. record {
       version = version i;
       level = level i;
@@ -58,7 +62,8 @@ image_same p q g h e =
 
 -- a source is one of one image
 pub one-image : (source : List ℕ) (p q : Parts) → IsSourceOf source p → IsSourceOf source q → p ≡ q
-one-image source p q (g, a) (h, b) = image_same p q g h (let same : Ok (program_of p) ≡ Ok (program_of q) = sym a ∙ b in cc)
+one-image source p q (g, a) (h, b) =
+    image_same p q g h (let same : Ok (program_of p) ≡ Ok (program_of q) = sym a ∙ b in cc)
 
 pub source-listing : (p : Parts) → IsImage p → IsSourceOf (listing p) p
 source-listing p good = (good, assembled-listing p good)

@@ -10,11 +10,11 @@
 //! image; and where `alpha_asm::assemble` gives an image for a text, the text is a source of that one.
 //!
 //! The proofs of the law of listings, lowest first: `Items.antt` has the statements that the lines of a
-//! listing say. `Cut.antt` (joined lines are cut into these lines again), `Digits.antt` (texts of
+//! listing say. `JoinedLines.antt` (joined lines are cut into these lines again), `Digits.antt` (texts of
 //! numbers), `Rows.antt` (the values of a row of bytes), `Plain.antt` (statements without labels: none is
-//! refused, and what they make), `Making.antt` (what the statements of a listing make), `Places.antt` and
+//! refused, and what they make), `ListedProgram.antt` (what the statements of a listing make), `Places.antt` and
 //! `Segments.antt` (where they lead), `Program.antt` (they make the program of the image),
-//! `Directives.antt` and `Codes.antt` (each line reads back), `Listing.antt` (the law), `Same.antt` (a
+//! `Directives.antt` and `Codes.antt` (each line reads back), `ListingRoundTrip.antt` (the law), `Same.antt` (a
 //! source is one of one image) and `Sizes.antt` (the length of a listing). Of the laws of sources:
 //! `Insns.antt` (what a line says is an instruction of the table) and `Sources.antt` (the image).
 #![tactic(auto)]

@@ -1,7 +1,7 @@
 pub mod Row
-pub mod Ran
+pub mod RunEffect
 pub mod Noted
 pub mod SeqRun
-pub mod WildRan
+pub mod ImpreciseRan
 pub mod Stays
 pub mod Shows

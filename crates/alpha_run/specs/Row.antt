@@ -5,58 +5,60 @@ use Rattle.alpha_seq.specs.declared.machine.Machine.{Machine}
 use Rattle.alpha_seq.specs.declared.event.Event.{Event}
 use Rattle.alpha_seq.specs.declared.event.Event.TheVariants as events
 use Rattle.alpha_seq.specs.State.{Event as Happened, Went}
-use Rattle.alpha_seq.specs.Print.{Print, is_over}
+use Rattle.alpha_seq.specs.StepLabel.{StepLabel, is_over}
 
 -- from one machine to another by these steps
-abbrev pub Row : {M : Type 0} → (M → Print → M → Type 0) → M → List Print → M → Type 0
+abbrev pub Row : {M : Type 0} → (M → StepLabel → M → Type 0) → M → List StepLabel → M → Type 0
 Row goes old [] new = old ≡ new
 Row goes old (p ∷ ps) new = (mid : _) × goes old p mid × Row goes mid ps new
 
 -- the program goes on behind each of them
-abbrev pub AreGoing : List Print → Type 0
+abbrev pub AreGoing : List StepLabel → Type 0
 AreGoing [] = ⊤
 AreGoing (p ∷ ps) = (is_over p.event ≡ false) × AreGoing ps
 
 -- a step that only went on: it used a unit and drew no word, and nothing passed in it
-pub record OnlyWent (p : Print) : Type 0 where
+pub record OnlyWent (p : StepLabel) : Type 0 where
   pub event : p.event ≡ events.Went
   pub units : p.units ≡ 1
   pub words : p.words ≡ []
   pub seen : p.seen ≡ Went ∷ []
 
-abbrev pub AreWent : List Print → Type 0
+abbrev pub AreWent : List StepLabel → Type 0
 AreWent [] = ⊤
 AreWent (p ∷ ps) = OnlyWent p × AreWent ps
 
 -- from one machine to another by so many steps that only went on
-abbrev pub Rushed : {M : Type 0} → (M → Print → M → Type 0) → ℕ → M → M → Type 0
-Rushed goes n old new = (prints : List Print) × Row goes old prints new × AreWent prints × (length prints ≡ n)
+abbrev pub FastSteps : {M : Type 0} → (M → StepLabel → M → Type 0) → ℕ → M → M → Type 0
+FastSteps goes n old new = (prints : List StepLabel) × Row goes old prints new × AreWent prints × (length prints ≡ n)
 
-abbrev pub words_of : Print → List ℕ
+abbrev pub words_of : StepLabel → List ℕ
 words_of p = p.words
 
-abbrev pub events_in : Print → List Happened
+abbrev pub events_in : StepLabel → List Happened
 events_in p = p.seen
 
 -- all that was seen of them
-abbrev pub events_of : List Print → List Happened
+abbrev pub events_of : List StepLabel → List Happened
 events_of ps = flat_map events_in ps
 
 -- the units that they used
-abbrev pub units_of : List Print → ℕ
+abbrev pub units_of : List StepLabel → ℕ
 units_of [] = 0
 units_of (p ∷ ps) = p.units + units_of ps
 
 -- the lines that an observer writes of them, and what it is behind them
-abbrev pub lines_by : {O : Type 0} → (O → Event → Machine → O) → (O → Event → Machine → List ℕ) → O → List Print → List ℕ
+abbrev pub lines_by : {O : Type 0} → (O → Event → Machine → O) → (O → Event → Machine → List ℕ) → O → List StepLabel
+    → List ℕ
 lines_by after lines o [] = []
 lines_by after lines o (p ∷ ps) = lines o p.event p.core ++ lines_by after lines (after o p.event p.core) ps
 
-abbrev pub seen_by : {O : Type 0} → (O → Event → Machine → O) → O → List Print → O
+abbrev pub seen_by : {O : Type 0} → (O → Event → Machine → O) → O → List StepLabel → O
 seen_by after o [] = o
 seen_by after o (p ∷ ps) = seen_by after (after o p.event p.core) ps
 
 -- it stops behind none of them
-abbrev pub Unstopped : {O : Type 0} → (O → Event → Machine → O) → (O → Event → Machine → Bool) → O → List Print → Type 0
+abbrev pub Unstopped : {O : Type 0} → (O → Event → Machine → O) → (O → Event → Machine → Bool) → O → List StepLabel
+    → Type 0
 Unstopped after stops o [] = ⊤
 Unstopped after stops o (p ∷ ps) = (stops o p.event p.core ≡ false) × Unstopped after stops (after o p.event p.core) ps

@@ -4,7 +4,7 @@ use Rattle.std.proofs.Common.{◌∙◌}
 use Rattle.alpha_mem.specs.Block.{shapes}
 use Rattle.alpha_seq.specs.declared.machine.Machine.{Machine}
 use Rattle.alpha_seq.specs.Machine.{Stays}
-use Rattle.alpha_imprecise.specs.Wild.{WildState}
+use Rattle.alpha_imprecise.specs.ImpreciseState.{ImpreciseState}
 
 pub stays_own : (m : Machine) → Stays m m
 stays_own m = record { program = refl; mode = refl }
@@ -24,11 +24,11 @@ pub seq_on : (m n o : Machine) → SeqStays m n → SeqStays n o → SeqStays m 
 seq_on m n o one two = record { stays = stays_on m n o one.stays two.stays; blocks = two.blocks ∙ one.blocks }
 
 -- the program and the mode
-abbrev pub WildStays : WildState → WildState → Type 0
-WildStays old new = Stays old.machine new.machine
+abbrev pub ImpreciseStays : ImpreciseState → ImpreciseState → Type 0
+ImpreciseStays old new = Stays old.machine new.machine
 
-pub wild_own : (w : WildState) → WildStays w w
-wild_own w = stays_own w.machine
+pub imprecise_own : (w : ImpreciseState) → ImpreciseStays w w
+imprecise_own w = stays_own w.machine
 
-pub wild_on : (v w x : WildState) → WildStays v w → WildStays w x → WildStays v x
-wild_on v w x one two = stays_on v.machine w.machine x.machine one two
+pub imprecise_on : (v w x : ImpreciseState) → ImpreciseStays v w → ImpreciseStays w x → ImpreciseStays v x
+imprecise_on v w x one two = stays_on v.machine w.machine x.machine one two

@@ -1,8 +1,8 @@
 ghost use Rattle.std.specs.Prelude.{◌≡◌, ◌≤◌, ℕ, List, Bool, IfOk, OnOk, OnErr};
-ghost use Rattle.alpha_io.specs.Sunk.{sunk, Puts, Partly, HasFailed};
+ghost use Rattle.alpha_io.specs.SinkChange.{sink_change, Puts, WritesPartly, HasFailed};
 ghost use Rattle.alpha_seq.specs.declared.machine.Machine.{Machine as Core};
-ghost use Rattle.alpha_seq.specs.declared.event.Event.{Event as Happening};
-ghost use Rattle.alpha_run.specs.Ran.{watching, PassesOver};
+ghost use Rattle.alpha_seq.specs.declared.event.Event.{Event as SeenEvent};
+ghost use Rattle.alpha_run.specs.RunEffect.{watching, PassesOver};
 
 use alpha_io::{Failed, Sink};
 use alpha_seq::{Event, Machine};
@@ -10,13 +10,13 @@ use alpha_seq::{Event, Machine};
 /// Who looks at each step of a run.
 pub trait Observer {
     /// The lines that it writes of a step.
-    ghost lines: { Self → Happening → Core → List ℕ };
+    ghost lines: { Self → SeenEvent → Core → List ℕ };
 
     /// What it is after a step.
-    ghost after: { Self → Happening → Core → Self };
+    ghost after: { Self → SeenEvent → Core → Self };
 
     /// Whether it stops the run after a step.
-    ghost stops: { Self → Happening → Core → Bool };
+    ghost stops: { Self → SeenEvent → Core → Bool };
 
     /// How many steps that only go on it need not be shown one by one.
     ghost room: { Self → ℕ };
@@ -37,11 +37,11 @@ pub trait Observer {
         machine: &Machine,
         notes: &mut N,
     ) -> Result<bool, Failed>
-        ensures lines { OnOk result (Puts (sunk N.Sink notes.old notes.new)
+        ensures lines { OnOk result (Puts (sink_change N.Sink notes.old notes.new)
             (lines self.old event.now machine.now)) }
-        ensures part { OnErr result (Partly (sunk N.Sink notes.old notes.new)
+        ensures part { OnErr result (WritesPartly (sink_change N.Sink notes.old notes.new)
             (lines self.old event.now machine.now)) }
-        ensures cause { OnErr result (HasFailed (sunk N.Sink notes.old notes.new)) }
+        ensures cause { OnErr result (HasFailed (sink_change N.Sink notes.old notes.new)) }
         ensures after { OnOk result (self.new ≡ after self.old event.now machine.now) }
         ensures stops { IfOk result (λ stop. stop ≡ stops self.old event.now machine.now) };
 }

@@ -7,10 +7,10 @@ use alpha_seq::{Event, Fault, Machine};
 
 impl Steps for Machine {
     ghost use Rattle.std.specs.Prelude.{IsTrue};
-    ghost use Rattle.alpha_seq.specs.Sequential.{SeqGoes, SeqLeaves, one_unit, no_wait, itself};
+    ghost use Rattle.alpha_seq.specs.Sequential.{SeqStep, SeqStateAfterFault, one_unit, no_wait, itself};
     ghost use Rattle.alpha_run.specs.Stays.{SeqStays, seq_own, seq_on};
 
-    ghost goes = { SeqGoes };
+    ghost steps_to = { SeqStep };
 
     ghost ready = { λ m. IsTrue m.kernel.user };
 
@@ -20,7 +20,7 @@ impl Steps for Machine {
 
     ghost core = { itself };
 
-    ghost leaves = { SeqLeaves };
+    ghost leaves = { SeqStateAfterFault };
 
     ghost stays = { SeqStays };
 
@@ -39,11 +39,11 @@ impl Steps for Machine {
     }
 
     #[inline(always)]
-    fn rush(&mut self, units: u64) -> u64 {
-        Machine::rush(self, units)
+    fn run_fast(&mut self, units: u64) -> u64 {
+        Machine::run_fast(self, units)
     }
 
-    // A run has made most steps that only go on by `rush`, so that this one doesn't try that first.
+    // A run has made most steps that only go on by `run_fast`, so that this one doesn't try that first.
     #[inline(always)]
     fn step<C: Chooser, S: Source, K: Sink>(
         &mut self,

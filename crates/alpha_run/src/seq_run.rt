@@ -1,11 +1,11 @@
 //! The run of the sequential machine.
 
 ghost use Rattle.std.specs.Prelude.{◌≡◌, IsTrue, IfOk, IfErr};
-ghost use Rattle.alpha_io.specs.Sunk.{sunk};
+ghost use Rattle.alpha_io.specs.SinkChange.{sink_change};
 ghost use Rattle.alpha_mem.specs.Block.{shapes};
 ghost use Rattle.alpha_seq.specs.Machine.{Stays};
 ghost use Rattle.alpha_seq.specs.Devices.{drawn};
-ghost use Rattle.alpha_run.specs.SeqRun.{SeqRan, SeqCut};
+ghost use Rattle.alpha_run.specs.SeqRun.{SeqRan, SeqPrefixRun};
 
 use crate::{NoWords, Notes, run};
 use alpha_io::{Sink, Source};
@@ -25,13 +25,13 @@ pub fn run_sequential<S: Source, K: Sink, N: Sink>(
     requires { IsTrue machine.old.kernel.user }
     ensures made { IfOk result (λ last. SeqRan last left.old left.new watch machine.old machine.new
         (drawn S.Source input.old input.new)
-        (sunk K.Sink out.old out.new)
-        (sunk N.Sink notes.old notes.new)) }
-    ensures broken { IfErr result (λ fault. SeqCut fault left.old left.new watch
+        (sink_change K.Sink out.old out.new)
+        (sink_change N.Sink notes.old notes.new)) }
+    ensures broken { IfErr result (λ fault. SeqPrefixRun fault left.old left.new watch
         machine.old machine.new
         (drawn S.Source input.old input.new)
-        (sunk K.Sink out.old out.new)
-        (sunk N.Sink notes.old notes.new)) }
+        (sink_change K.Sink out.old out.new)
+        (sink_change N.Sink notes.old notes.new)) }
     ensures shapes { shapes machine.new.memory ≡ shapes machine.old.memory }
     ensures same { Stays machine.old machine.new }
 {

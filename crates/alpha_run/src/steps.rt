@@ -1,12 +1,12 @@
 ghost use Rattle.std.specs.Prelude.{◌≡◌, ◌<◌, ◌≤◌, ◌+◌, ◌*◌, ℕ, false, IfOk, IfErr};
-ghost use Rattle.alpha_io.specs.Sunk.{Sunk, sunk};
+ghost use Rattle.alpha_io.specs.SinkChange.{SinkChange, sink_change};
 ghost use Rattle.alpha_pal.specs.declared.fault.Fault.{Fault as Failure};
 ghost use Rattle.alpha_seq.specs.declared.machine.Machine.{Machine as Core};
 ghost use Rattle.alpha_seq.specs.Devices.{Drawn, drawn};
-ghost use Rattle.alpha_imprecise.specs.Telling.{Moves, telling};
-ghost use Rattle.alpha_seq.specs.Print.{Print, is_over};
-ghost use Rattle.alpha_seq.specs.StepEffect.{Makes, Breaks};
-ghost use Rattle.alpha_run.specs.Row.{Rushed};
+ghost use Rattle.alpha_imprecise.specs.Oracle.{OracleDraws, oracle_of};
+ghost use Rattle.alpha_seq.specs.StepLabel.{StepLabel, is_over};
+ghost use Rattle.alpha_seq.specs.StepEffect.{StepEffect, FaultedStepEffect};
+ghost use Rattle.alpha_run.specs.Row.{FastSteps};
 
 use alpha_imprecise::Chooser;
 use alpha_io::{Sink, Source};
@@ -15,7 +15,7 @@ use alpha_seq::{Event, Fault, Machine};
 /// A machine that makes steps.
 pub trait Steps {
     /// The step of the definition from one machine to another.
-    ghost goes: { Self → Print → Self → Type 0 };
+    ghost steps_to: { Self → StepLabel → Self → Type 0 };
 
     /// The machine may make a step.
     ghost ready: { Self → Type 0 };
@@ -30,7 +30,7 @@ pub trait Steps {
     ghost core: { Self → Core };
 
     /// What a device that failed leaves of the machine, from the machine before the step to the one behind it.
-    ghost leaves: { Failure → Self → Self → Drawn → Sunk → Type 0 };
+    ghost leaves: { Failure → Self → Self → Drawn → SinkChange → Type 0 };
 
     /// All that no step changes is the same.
     ghost stays: { Self → Self → Type 0 };
@@ -45,10 +45,10 @@ pub trait Steps {
 
     /// Makes steps as long as each only goes on, `units` of them at most, and answers how many it made. It may stop
     /// early: what a step does then is what [`Steps::step`] says.
-    fn rush(&mut self, units: u64) -> u64
+    fn run_fast(&mut self, units: u64) -> u64
         requires { ready self.old }
         ensures most { result ≤ units }
-        ensures went { Rushed goes result self.old self.new }
+        ensures went { FastSteps steps_to result self.old self.new }
         ensures nearer { waits self.new ≤ waits self.old }
         ensures same { stays self.old self.new }
         ensures ready { ready self.new };
@@ -61,18 +61,18 @@ pub trait Steps {
         out: &mut K,
     ) -> Result<Event, Fault>
         requires { ready self.old }
-        ensures made { IfOk result (λ event. Makes goes uses core
-            (Moves (telling C.ahead C.drawn chooser.old) (telling C.ahead C.drawn chooser.new))
+        ensures made { IfOk result (λ event. StepEffect steps_to uses core
+            (OracleDraws (oracle_of C.ahead C.drawn chooser.old) (oracle_of C.ahead C.drawn chooser.new))
             event self.old self.new
             (drawn S.Source input.old input.new)
-            (sunk K.Sink out.old out.new)) }
+            (sink_change K.Sink out.old out.new)) }
         ensures nearer { IfOk result (λ event. is_over event ≡ false
             → waits self.new < waits self.old + 1026 * uses self.old) }
-        ensures broken { IfErr result (λ fault. Breaks goes uses core leaves
-            (Moves (telling C.ahead C.drawn chooser.old) (telling C.ahead C.drawn chooser.new))
+        ensures broken { IfErr result (λ fault. FaultedStepEffect steps_to uses core leaves
+            (OracleDraws (oracle_of C.ahead C.drawn chooser.old) (oracle_of C.ahead C.drawn chooser.new))
             fault self.old self.new
             (drawn S.Source input.old input.new)
-            (sunk K.Sink out.old out.new)) }
+            (sink_change K.Sink out.old out.new)) }
         ensures same { stays self.old self.new }
         ensures ready { ready self.new };
 

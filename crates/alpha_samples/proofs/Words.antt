@@ -5,7 +5,8 @@ use Rattle.alpha_image.specs.Layout.{longword}
 use Rattle.alpha_image.specs.Reading.{words_of}
 use Rattle.alpha_image.proofs.CodeWords.{words_of-front}
 
-pub words_of-words : (words : List ℕ) → ((k : ℕ) → slice_index words k < 2 ^ 32) → words_of (flat_map longword words) ≡ words
+pub words_of-words : (words : List ℕ) → ((k : ℕ) → slice_index words k < 2 ^ 32)
+    → words_of (flat_map longword words) ≡ words
 words_of-words [] small = refl
 words_of-words (w ∷ words) small =
     words_of-front w (flat_map longword words) (small 0)

@@ -30,7 +30,7 @@ use Rattle.alpha_seq.specs.Run.{after, sequential}
 
 -- words at 65,536 with a stack of 16 bytes and no segment
 abbrev program : List ℕ → Completion → Program
-program words how = record {
+program words completion = record {
   image = record {
     version = versions.Two;
     level = levels.One;
@@ -41,18 +41,20 @@ program words how = record {
     words = words;
     bytes = [];
   };
-  how = how;
+  completion = completion;
 }
 
 -- how the run of at most so many steps ends, over an empty input
 unfoldable end : Completion → ℕ → List ℕ → Option End
-unfolding int_wrap digits number reg put class_at class_in pairwise is_taken register_of address_of high_address_of access_address result_of overflow_of completed_of fault_of each_within bytes_at write_bytes call longword place_of start_memory start_regs
-end how n words = (sequential (program words how) [] n false).end
+unfolding int_wrap digits number reg put class_at class_in pairwise is_taken register_of address_of high_address_of
+    access_address result_of overflow_of completed_of fault_of each_within bytes_at write_bytes call longword place_of
+    start_memory start_regs
+end completion n words = (sequential (program words completion) [] n false).end
 
 -- how many steps that run has, and its overflows and barriers
 unfoldable steps : Completion → ℕ → List ℕ → ℕ
 unfolding end
-steps how n words = (sequential (program words how) [] n false).steps
+steps completion n words = (sequential (program words completion) [] n false).steps
 
 abbrev marked : Event → List Event
 marked Went = []
@@ -61,7 +63,7 @@ marked event = event ∷ []
 
 unfoldable trace : Completion → ℕ → List ℕ → List Event
 unfolding end
-trace how n words = let g = program words how in flat_map marked (after g (start g) [] n).events
+trace completion n words = let g = program words completion in flat_map marked (after g (start g) [] n).events
 
 -- `lda $0,9($31); callsys; bis $0,$0,$16; lda $0,1($31); callsys`: there is no system call 9
 abbrev no_such_call : List ℕ
@@ -106,7 +108,8 @@ jump-old : end Wrap 3 (0x235b000f ∷ 0x6b5a4000 ∷ []) ≡ Some (Fetch 65548)
 unfolding end
 jump-old = refl
 
--- `lda $1,-1($31); srl $1,1,$1; bis $31,1,$2; addq/v $1,$2,$3; addq/v $1,$1,$4; trapb; xor $3,$4,$16; lda $0,1($31); callsys`
+-- `lda $1,-1($31); srl $1,1,$1; bis $31,1,$2; addq/v $1,$2,$3; addq/v $1,$1,$4; trapb; xor $3,$4,$16; lda $0,1($31);
+-- callsys`
 abbrev two_overflows : List ℕ
 two_overflows =
     0x203fffff ∷ 0x48203681 ∷ 0x47e03402 ∷ 0x40220c03 ∷ 0x40210c04 ∷ 0x63ff0000 ∷ 0x44640810 ∷ 0x201f0001 ∷ 0x83 ∷ []
@@ -136,17 +139,19 @@ unfolding end
 two_overflows-not_yet = refl
 
 -- `lda $1,7($31); ldq_l $2,-16($30); stq_c $1,-16($30); stq_c $3,-16($30); s4addq $1,$3,$16; lda $0,1($31); callsys`
-locked_pair : end Wrap 7 (0x203f0007 ∷ 0xac5efff0 ∷ 0xbc3efff0 ∷ 0xbc7efff0 ∷ 0x40230450 ∷ 0x201f0001 ∷ 0x83 ∷ []) ≡ Some (Exit 4)
+locked_pair : end Wrap 7 (0x203f0007 ∷ 0xac5efff0 ∷ 0xbc3efff0 ∷ 0xbc7efff0 ∷ 0x40230450 ∷ 0x201f0001 ∷ 0x83 ∷ [])
+    ≡ Some (Exit 4)
 unfolding end
 locked_pair = refl
 
 -- `lda $1,-1($31); stl $1,-16($30); ldl $2,-16($30); bis $2,$2,$16; lda $0,1($31); callsys`: a longword has a sign
-longword-sign : end Wrap 6 (0x203fffff ∷ 0xb03efff0 ∷ 0xa05efff0 ∷ 0x44420410 ∷ 0x201f0001 ∷ 0x83 ∷ []) ≡ Some (Exit 18446744073709551615)
+longword-sign : end Wrap 6 (0x203fffff ∷ 0xb03efff0 ∷ 0xa05efff0 ∷ 0x44420410 ∷ 0x201f0001 ∷ 0x83 ∷ [])
+    ≡ Some (Exit 18446744073709551615)
 unfolding end
 longword-sign = refl
 
--- `lda $1,-1($31); srl $1,1,$1; bis $31,1,$2; br $31,.+8; addq/v $2,$2,$5; addq/v $1,$2,$3; nop; trapb; bis $31,$31,$16;
--- lda $0,1($31); callsys`
+-- `lda $1,-1($31); srl $1,1,$1; bis $31,1,$2; br $31,.+8; addq/v $2,$2,$5; addq/v $1,$2,$3; nop; trapb; bis
+-- $31,$31,$16; lda $0,1($31); callsys`
 abbrev branched : List ℕ
 branched =
     0x203fffff ∷ 0x48203681 ∷ 0x47e03402 ∷ 0xc3e00001 ∷ 0x40420c05 ∷ 0x40220c03 ∷ 0x47ff041f ∷ 0x63ff0000 ∷ 0x47ff0410 ∷
@@ -164,7 +169,8 @@ watched = 0x203f0002 ∷ 0x205f0003 ∷ 0x40220c03 ∷ 0x63ff0000 ∷ 0x83 ∷ [
 abbrev registers : ℕ → ℕ → List ℕ
 registers r0 r19 = r0 ∷ 2 ∷ 3 ∷ 5 ∷ (replicate 15 0 ++ r19 ∷ (replicate 7 0 ++ 65536 ∷ 0 ∷ 0 ∷ 1073741824 ∷ 0 ∷ []))
 
-watched-trace : trace Wrap 9 watched ≡ Barriered Silent 65552 (registers 0 0) ∷ Barriered Silent 65556 (registers 78 1) ∷ []
+watched-trace : trace Wrap 9 watched
+    ≡ Barriered Silent 65552 (registers 0 0) ∷ Barriered Silent 65556 (registers 78 1) ∷ []
 unfolding trace
 watched-trace = refl
 
@@ -172,34 +178,40 @@ watched-ends : end Wrap 9 watched ≡ Some (Fetch 65556)
 unfolding end
 watched-ends = refl
 
--- `ldq_l $2,-16($30); stq $1,-16($30); stq_c $27,-8($30); bis $27,$27,$16; lda $0,1($31); callsys`: another store leaves
--- the flag, which stands for sixteen bytes
+-- `ldq_l $2,-16($30); stq $1,-16($30); stq_c $27,-8($30); bis $27,$27,$16; lda $0,1($31); callsys`: another store
+-- leaves the flag, which stands for sixteen bytes
 lock-stays : end Wrap 6 (0xac5efff0 ∷ 0xb43efff0 ∷ 0xbf7efff8 ∷ 0x477b0410 ∷ 0x201f0001 ∷ 0x83 ∷ []) ≡ Some (Exit 1)
 unfolding end
 lock-stays = refl
 
--- `ldq_l $2,-16($30); lda $0,9($31); callsys; stq_c $27,-16($30); bis $27,$27,$16; lda $0,1($31); callsys`: a system call
--- clears the flag, one that is refused too
-lock-callsys : end Wrap 7 (0xac5efff0 ∷ 0x201f0009 ∷ 0x83 ∷ 0xbf7efff0 ∷ 0x477b0410 ∷ 0x201f0001 ∷ 0x83 ∷ []) ≡ Some (Exit 0)
+-- `ldq_l $2,-16($30); lda $0,9($31); callsys; stq_c $27,-16($30); bis $27,$27,$16; lda $0,1($31); callsys`: a system
+-- call clears the flag, one that is refused too
+lock-callsys : end Wrap 7 (0xac5efff0 ∷ 0x201f0009 ∷ 0x83 ∷ 0xbf7efff0 ∷ 0x477b0410 ∷ 0x201f0001 ∷ 0x83 ∷ [])
+    ≡ Some (Exit 0)
 unfolding end
 lock-callsys = refl
 
--- `ldq_l $2,-16($30); lda $16,5($31); wrunique; rdunique; imb; stq_c $27,-16($30); addq $0,$27,$16; lda $0,1($31); callsys`:
--- the other calls leave it
-lock-unique : end Wrap 9 (0xac5efff0 ∷ 0x221f0005 ∷ 0x9f ∷ 0x9e ∷ 0x86 ∷ 0xbf7efff0 ∷ 0x401b0410 ∷ 0x201f0001 ∷ 0x83 ∷ []) ≡ Some (Exit 6)
+-- `ldq_l $2,-16($30); lda $16,5($31); wrunique; rdunique; imb; stq_c $27,-16($30); addq $0,$27,$16; lda $0,1($31);
+-- callsys`: the other calls leave it
+lock-unique : end Wrap 9
+    (0xac5efff0 ∷ 0x221f0005 ∷ 0x9f ∷ 0x9e ∷ 0x86 ∷ 0xbf7efff0 ∷ 0x401b0410 ∷ 0x201f0001 ∷ 0x83 ∷ [])
+    ≡ Some (Exit 6)
 unfolding end
 lock-unique = refl
 
 -- `lda $1,-1($31); srl $1,1,$1; ldq_l $2,-16($30); addq/v $1,$1,$3; stq_c $27,-16($30); bis $27,$27,$16; lda $0,1($31);
 -- callsys`: an overflow clears it
-lock-overflow : end Wrap 8 (0x203fffff ∷ 0x48203681 ∷ 0xac5efff0 ∷ 0x40210c03 ∷ 0xbf7efff0 ∷ 0x477b0410 ∷ 0x201f0001 ∷ 0x83 ∷ []) ≡ Some (Exit 0)
+lock-overflow : end Wrap 8
+    (0x203fffff ∷ 0x48203681 ∷ 0xac5efff0 ∷ 0x40210c03 ∷ 0xbf7efff0 ∷ 0x477b0410 ∷ 0x201f0001 ∷ 0x83 ∷ [])
+    ≡ Some (Exit 0)
 unfolding end
 lock-overflow = refl
 
 -- `lda $0,3($31); lda $17,-16($30); lda $18,4($31); callsys; bis $0,$0,$18; lda $0,4($31); lda $16,1($31); callsys;
 -- lda $0,1($31); callsys`: what is read is written, though the input has fewer bytes than were asked for
 abbrev echo : List ℕ
-echo = 0x201f0003 ∷ 0x223efff0 ∷ 0x225f0004 ∷ 0x83 ∷ 0x44000412 ∷ 0x201f0004 ∷ 0x221f0001 ∷ 0x83 ∷ 0x201f0001 ∷ 0x83 ∷ []
+echo =
+    0x201f0003 ∷ 0x223efff0 ∷ 0x225f0004 ∷ 0x83 ∷ 0x44000412 ∷ 0x201f0004 ∷ 0x221f0001 ∷ 0x83 ∷ 0x201f0001 ∷ 0x83 ∷ []
 
 echo-shown : sequential (program echo Wrap) (7 ∷ 8 ∷ 9 ∷ []) 100 false
     ≡ record { end = Some (Exit 1); steps = 10; output = 7 ∷ 8 ∷ 9 ∷ []; left = []; notes = [] }
@@ -211,19 +223,23 @@ abbrev in_segments : List ℕ → Program
 in_segments words = record {
   image = record (program words Wrap).image {
     level = levels.Two;
-    segments = record { base = 0x10000000; filled = 8; zeroed = 0 } ∷ record { base = 0x10002000; filled = 8; zeroed = 0 } ∷ [];
+    segments =
+        record { base = 0x10000000; filled = 8; zeroed = 0 } ∷ record { base = 0x10002000; filled = 8; zeroed = 0 }
+        ∷ [];
     bytes = low_bytes 8 5 ++ low_bytes 8 7;
   };
-  how = Wrap;
+  completion = Wrap;
 }
 
 -- `ldah $1,4096($31); ldq $2,0($1); ldah $3,4096($31); ldq $4,8192($3); addq $2,$4,$16; lda $0,1($31); callsys`
-segments-ends : (sequential (in_segments (0x243f1000 ∷ 0xa4410000 ∷ 0x247f1000 ∷ 0xa4832000 ∷ 0x40440410 ∷ 0x201f0001 ∷ 0x83 ∷ [])) [] 7 false).end ≡ Some (Exit 12)
+segments-ends : (sequential (in_segments (0x243f1000 ∷ 0xa4410000 ∷ 0x247f1000 ∷ 0xa4832000 ∷ 0x40440410 ∷ 0x201f0001
+    ∷ 0x83 ∷ [])) [] 7 false).end ≡ Some (Exit 12)
 unfolding end
 segments-ends = refl
 
 -- `lda $1,240($31); ctpop $1,$2; ctlz $1,$3; cttz $1,$4; implver $5; amask 255,$6; addq $2,$3,$16; addq $16,$4,$16;
 -- addq $16,$5,$16; addq $16,$6,$16; lda $0,1($31); callsys`
-level-ends : (sequential (in_segments (0x203f00f0 ∷ 0x73e10602 ∷ 0x73e10643 ∷ 0x73e10664 ∷ 0x47e03d85 ∷ 0x47fffc26 ∷ 0x40430410 ∷ 0x42040410 ∷ 0x42050410 ∷ 0x42060410 ∷ 0x201f0001 ∷ 0x83 ∷ [])) [] 12 false).end ≡ Some (Exit 316)
+level-ends : (sequential (in_segments (0x203f00f0 ∷ 0x73e10602 ∷ 0x73e10643 ∷ 0x73e10664 ∷ 0x47e03d85 ∷ 0x47fffc26
+    ∷ 0x40430410 ∷ 0x42040410 ∷ 0x42050410 ∷ 0x42060410 ∷ 0x201f0001 ∷ 0x83 ∷ [])) [] 12 false).end ≡ Some (Exit 316)
 unfolding end zeros_before_one
 level-ends = refl

@@ -1,10 +1,11 @@
 -- What steps do over an input, they do over its front that they took, and all of it is that front and what is left.
-use Rattle.std.proofs.Common.{◌≡◌, ℕ, zero, suc, List, [], ◌∷◌, ◌++◌, length, take, drop, refl, sym, ap, subst, ◌∙◌, append_assoc}
+use Rattle.std.proofs.Common.{◌≡◌, ℕ, zero, suc, List, [], ◌∷◌, ◌++◌, length, take, drop, refl, sym, ap, subst, ◌∙◌}
+use Rattle.std.proofs.Common.{append_assoc}
 use Rattle.std.proofs.Math.Seq.{drop-append_seam}
 use Rattle.std.proofs.lemmas.List.{take-append-drop}
 use Rattle.alpha_seq.specs.State.{Event}
 use Rattle.alpha_seq.specs.Run.{asked, given, taken, left_by, Fed}
-use Rattle.alpha_seq.proofs.Asking.{drop-taken}
+use Rattle.alpha_seq.proofs.InputRequests.{drop-taken}
 
 -- a front that is taken is the same of a list that ends early
 pub take_front : (n : ℕ) (l xs ys : List ℕ) → xs ++ ys ≡ drop n l → take n l ≡ take n (take n l ++ xs)
@@ -26,7 +27,11 @@ pub fed_front : (events : List Event) (input left : List ℕ) → Fed input even
 fed_front [] input left fed = refl
 fed_front (e ∷ events) input left fed =
     let rest = fed_all events (left_by e input) left fed.1 in
-    let here : taken events ++ left ≡ drop (asked e) input = rest ∙ (ap (λ l. drop (length l) input) fed.0 ∙ drop-taken (asked e) input) in (
-      fed.0 ∙ (take_front (asked e) input (taken events) left here ∙ ap (λ l. take (asked e) (l ++ taken events)) (sym fed.0)),
-      subst (λ l. Fed l events []) (sym (drop-append_seam (given e) (taken events))) (fed_front events (left_by e input) left fed.1),
+    let here : taken events ++ left ≡ drop (asked e) input =
+    rest ∙ (ap (λ l. drop (length l) input) fed.0 ∙ drop-taken (asked e) input) in (
+      fed.0
+          ∙ (take_front (asked e) input (taken events) left here
+          ∙ ap (λ l. take (asked e) (l ++ taken events)) (sym fed.0)),
+      subst (λ l. Fed l events []) (sym (drop-append_seam (given e) (taken events)))
+          (fed_front events (left_by e input) left fed.1),
     )

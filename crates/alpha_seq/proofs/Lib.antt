@@ -1,17 +1,17 @@
 mod Examples
-pub mod Writing
-pub mod Stepping
-pub mod Running
-pub mod Executing
-pub mod Making
+pub mod RegisterWrites
+pub mod SingleSteps
+pub mod RunsOverInput
+pub mod ExecutedInsns
+pub mod StepsMade
 pub mod Calls
-pub mod Looking
+pub mod NextInsns
 pub mod Loaded
-pub mod Loading
+pub mod ImageLoads
 pub mod RunSteps
-pub mod Asking
+pub mod InputRequests
 pub mod Sequence
 pub mod Unread
 pub mod Fronts
-pub mod Rushing
-pub mod RushRuns
+pub mod FastStepLaws
+pub mod FastRuns

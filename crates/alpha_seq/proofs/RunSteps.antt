@@ -2,7 +2,7 @@
 use Rattle.std.proofs.Common.{◌≡◌, ℕ, false, List, [], ◌++◌, Option, None, refl, sym, ap, subst, ◌∙◌, append_assoc}
 use Rattle.std.specs.Io.KnownBytes.{Appends}
 use Rattle.std.proofs.KnownBytes.{Appends-trans}
-use Rattle.alpha_io.specs.Sunk.{Sunk}
+use Rattle.alpha_io.specs.SinkChange.{SinkChange}
 use Rattle.alpha_io.specs.Supply.{Supply}
 use Rattle.alpha_io.specs.Written.{WritesPrefix}
 use Rattle.alpha_io.proofs.Sinks.{Puts-none}
@@ -12,7 +12,7 @@ use Rattle.alpha_seq.specs.Run.{end_of, is_over}
 use Rattle.alpha_seq.specs.Devices.{Drawn, WritesBetween, Idles}
 
 -- the devices before a run, between it and a step, and after the step
-pub record Times (T : Type 0) : Type 0 where
+pub record StepTimes (T : Type 0) : Type 0 where
   pub first : T
   pub mid : T
   pub last : T
@@ -21,8 +21,8 @@ pub record Times (T : Type 0) : Type 0 where
   pub faults_last : ℕ
 
 -- by what the device tells, and its count of faults
-abbrev pub times : {D T : Type 0} → (D → T) → (D → ℕ) → D → D → D → Times T
-times tells faults first mid last = record {
+abbrev pub step_times : {D T : Type 0} → (D → T) → (D → ℕ) → D → D → D → StepTimes T
+step_times tells faults first mid last = record {
   first = tells first;
   mid = tells mid;
   last = tells last;
@@ -31,22 +31,22 @@ times tells faults first mid last = record {
   faults_last = faults last;
 }
 
-abbrev pub drawn_before : Times Supply → Drawn
+abbrev pub drawn_before : StepTimes Supply → Drawn
 drawn_before t = record { old = t.first; new = t.mid; before = t.faults_first; now = t.faults_mid }
 
-abbrev pub drawn_after : Times Supply → Drawn
+abbrev pub drawn_after : StepTimes Supply → Drawn
 drawn_after t = record { old = t.mid; new = t.last; before = t.faults_mid; now = t.faults_last }
 
-abbrev pub drawn_over : Times Supply → Drawn
+abbrev pub drawn_over : StepTimes Supply → Drawn
 drawn_over t = record { old = t.first; new = t.last; before = t.faults_first; now = t.faults_last }
 
-abbrev pub sunk_before : Times (Option (List ℕ)) → Sunk
+abbrev pub sunk_before : StepTimes (Option (List ℕ)) → SinkChange
 sunk_before t = record { old = t.first; new = t.mid; before = t.faults_first; now = t.faults_mid }
 
-abbrev pub sunk_after : Times (Option (List ℕ)) → Sunk
+abbrev pub sunk_after : StepTimes (Option (List ℕ)) → SinkChange
 sunk_after t = record { old = t.mid; new = t.last; before = t.faults_mid; now = t.faults_last }
 
-abbrev pub sunk_over : Times (Option (List ℕ)) → Sunk
+abbrev pub sunk_over : StepTimes (Option (List ℕ)) → SinkChange
 sunk_over t = record { old = t.first; new = t.last; before = t.faults_first; now = t.faults_last }
 
 -- ---- the definition
@@ -59,8 +59,10 @@ over-end (Ends end) e = absurd cc
 
 -- ---- devices
 
-pub between : (old mid new : Option (List ℕ)) (xs zs ys : List ℕ) → Appends old mid xs → WritesPrefix mid new zs → ys ≡ xs ++ zs → WritesBetween old new xs ys
-between old mid new xs zs ys first part is = record {
+pub Appends-WritesBetween : (old mid new : Option (List ℕ)) (xs zs ys : List ℕ) → Appends old mid xs
+    → WritesPrefix mid new zs
+    → ys ≡ xs ++ zs → WritesBetween old new xs ys
+Appends-WritesBetween old mid new xs zs ys first part is = record {
   more = part.done;
   rest = part.rest;
   whole = append_assoc xs part.done part.rest ∙ ap (λ l. xs ++ l) part.whole ∙ sym is;
@@ -68,7 +70,7 @@ between old mid new xs zs ys first part is = record {
 }
 
 -- nothing was written of what the step shows
-pub idle-part : (s : Sunk) (bytes : List ℕ) → Idles s → WritesPrefix s.old s.new bytes
+pub idle-part : (s : SinkChange) (bytes : List ℕ) → Idles s → WritesPrefix s.old s.new bytes
 idle-part s bytes idle = record {
   done = [];
   rest = bytes;
@@ -77,7 +79,10 @@ idle-part s bytes idle = record {
 }
 
 -- a run that was cut short wrote a front of what a longer one shows
-pub front : (old new : Option (List ℕ)) (xs ys more zs : List ℕ) → WritesBetween old new xs ys → zs ≡ ys ++ more → WritesPrefix old new zs
-front old new xs ys more zs b is =
-    let written : WritesPrefix old new ys = record { done = xs ++ b.more; rest = b.rest; whole = b.whole; written = b.written } in
+pub WritesBetween-prefix : (old new : Option (List ℕ)) (xs ys more zs : List ℕ) → WritesBetween old new xs ys
+    → zs ≡ ys ++ more
+    → WritesPrefix old new zs
+WritesBetween-prefix old new xs ys more zs b is =
+    let written : WritesPrefix old new ys =
+    record { done = xs ++ b.more; rest = b.rest; whole = b.whole; written = b.written } in
     subst (WritesPrefix old new) (sym is) (WritesPrefix-more old new ys more written)

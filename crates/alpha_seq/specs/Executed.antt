@@ -16,7 +16,7 @@ use Rattle.alpha_pal.specs.Call.{Silent}
 use Rattle.alpha_seq.specs.declared.end.End.{End}
 use Rattle.alpha_seq.specs.declared.end.Next.{Next}
 use Rattle.alpha_seq.specs.declared.end.Next.TheVariants as nexts
-use Rattle.alpha_seq.specs.declared.event.Event.{Event as Seen}
+use Rattle.alpha_seq.specs.declared.event.Event.{Event as SeenEvent}
 use Rattle.alpha_seq.specs.declared.event.Event.TheVariants as events
 use Rattle.alpha_seq.specs.declared.machine.Machine.{Machine}
 use Rattle.alpha_seq.specs.State.{Event, Went, Barriered, Overflowed, Ends, stepped}
@@ -24,7 +24,7 @@ use Rattle.alpha_seq.specs.Step.{next_pc, fault_end, accessed, step}
 use Rattle.alpha_seq.specs.Machine.{program_of, state_of, class_here, kernel_left}
 
 -- The step of the definition at a word of this class, whatever there is to be read.
-pub record Does (event : Event) (class : Class) (old new : Machine) : Type 0 where
+pub record ExecutesWord (event : Event) (class : Class) (old new : Machine) : Type 0 where
   pub is : (input : List ℕ) → step (program_of old) (Some class) (state_of old) input ≡ stepped (state_of new) event
   pub program : program_of new ≡ program_of old
   pub kernel : new.kernel ≡ kernel_left (Some class) (next_pc (state_of old)) old.regs old.kernel
@@ -35,26 +35,27 @@ filled Zero n = n
 filled Sign n = register_of (signed w32 n)
 
 -- what the execution of a word that is no PAL call did, by its answer
-abbrev pub ExecuteEffect : Seen → Class → Machine → Machine → Type 0
-ExecuteEffect events.Went class old new = Does Went class old new
-ExecuteEffect (events.Barrier passed) class old new = (passed ≡ Nothing) × Does (Barriered Silent new.pc new.regs) class old new
-ExecuteEffect (events.Overflowed at) class old new = Does (Overflowed at) class old new
+abbrev pub ExecuteEffect : SeenEvent → Class → Machine → Machine → Type 0
+ExecuteEffect events.Went class old new = ExecutesWord Went class old new
+ExecuteEffect (events.Barrier passed) class old new =
+    (passed ≡ Nothing) × ExecutesWord (Barriered Silent new.pc new.regs) class old new
+ExecuteEffect (events.Overflowed at) class old new = ExecutesWord (Overflowed at) class old new
 ExecuteEffect (events.Triggered value) class old new = ⊥
 ExecuteEffect (events.Waited wait) class old new = ⊥
 ExecuteEffect (events.Reported at) class old new = ⊥
-ExecuteEffect (events.Ended end) class old new = Does (Ends end) class old new
+ExecuteEffect (events.Ended end) class old new = ExecutesWord (Ends end) class old new
 ExecuteEffect (events.Lost pc mask) class old new = ⊥
 
 -- an access of a word that faults ends the program, and all is as before
 abbrev pub FaultEffect : MemFault → Class → MemAccess → Machine → Machine → Type 0
 FaultEffect fault class at old new =
-    (new ≡ old) × Does (Ends (fault_end fault old.pc (accessed at (state_of old)))) class old new
+    (new ≡ old) × ExecutesWord (Ends (fault_end fault old.pc (accessed at (state_of old)))) class old new
 
 -- The step of the definition only went on, whatever there is to be read.
-pub record GoesOn (old new : Machine) : Type 0 where
+pub record Retires (old new : Machine) : Type 0 where
   pub class : Class
   pub here : class_here old ≡ Some class
-  pub does : Does Went class old new
+  pub does : ExecutesWord Went class old new
 
 -- the machine after an overflow that is completed
 abbrev pub logged_machine : Machine → ℕ → ℕ → Machine

@@ -7,9 +7,9 @@ pub mod Run
 pub mod Next
 pub mod Machine
 pub mod Devices
-pub mod Print
+pub mod StepLabel
 pub mod StepEffect
 pub mod Sequential
 pub mod Executed
 pub mod Fronts
-pub mod Rushed
+pub mod FastSteps

@@ -8,7 +8,7 @@ use Rattle.alpha_seq.specs.State.{Program, State}
 use Rattle.alpha_seq.specs.Step.{next_class}
 
 abbrev pub program_of : Machine → Program
-program_of m = record { image = m.image; how = m.how }
+program_of m = record { image = m.image; completion = m.completion }
 
 abbrev pub state_of : Machine → State
 state_of m = record {

@@ -1,5 +1,7 @@
--- A run is a list of the events of its steps, which ends where the program does. All that it shows is read off that list.
-use Rattle.std.specs.Prelude.{◌≡◌, ⊤, ℕ, zero, suc, Bool, true, false, if◌then◌else◌, List, [], ◌∷◌, ◌++◌, length, take, drop, Option, Some, None}
+-- A run is a list of the events of its steps, which ends where the program does. All that it shows is read off that
+-- list.
+use Rattle.std.specs.Prelude.{◌≡◌, ⊤, ℕ, zero, suc, Bool, true, false, if◌then◌else◌, List, [], ◌∷◌, ◌++◌, length, take}
+use Rattle.std.specs.Prelude.{drop, Option, Some, None}
 use Rattle.std.specs.List.{flat_map}
 use Rattle.alpha_pal.specs.Call.{Traffic, Silent, Read, asked_in, given_in, put_in}
 use Rattle.alpha_seq.specs.declared.end.End.{End}

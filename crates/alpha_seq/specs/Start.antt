@@ -15,7 +15,8 @@ stack_end = 2 ^ 30
 unfoldable pub start_memory : Parts → List Block
 start_memory p =
     block p.code_base (flat_map longword p.words) 0 false
-    ∷ (map (λ piece. block piece.base piece.bytes piece.zeroed true) (pieces p) ++ block (stack_end - p.stack) [] p.stack true ∷ [])
+    ∷ (map (λ piece. block piece.base piece.bytes piece.zeroed true) (pieces p)
+    ++ block (stack_end - p.stack) [] p.stack true ∷ [])
 
 -- all registers are 0 but for R27, the entry address, and R30, the end of the stack
 unfoldable pub start_regs : Parts → List ℕ

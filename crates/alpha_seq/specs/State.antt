@@ -9,10 +9,10 @@ use Rattle.alpha_seq.specs.declared.end.End.{End}
 -- An image, and what an instruction that overflows leaves. No step changes either.
 pub record Program : Type 0 where
   pub image : Parts
-  pub how : Completion
+  pub completion : Completion
 
--- The registers, the PC, the memory, the unique value, the number in the lock flag if it is set, how many overflows were
--- logged modulo 2 ^ 64 and the address of the last one.
+-- The registers, the PC, the memory, the unique value, the number in the lock flag if it is set, how many overflows
+-- were logged modulo 2 ^ 64 and the address of the last one.
 pub record State : Type 0 where
   pub regs : List ℕ
   pub pc : ℕ
@@ -22,8 +22,8 @@ pub record State : Type 0 where
   pub count : ℕ
   pub logged : ℕ
 
--- An instruction was executed; a barrier was, with what passed in it and the PC and the registers behind it; the one at this
--- address overflowed and was logged; or the program ended.
+-- An instruction was executed; a barrier was, with what passed in it and the PC and the registers behind it; the one at
+-- this address overflowed and was logged; or the program ended.
 pub data Event : Type 0 where
   Went : Event
   Barriered : (traffic : Traffic) (pc : ℕ) (regs : List ℕ) → Event

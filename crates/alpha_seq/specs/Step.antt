@@ -1,5 +1,6 @@
 -- What a step does: one equation a class of words.
-use Rattle.std.specs.Prelude.{ℕ, ◌+◌, ◌*◌, ◌/◌, ◌%◌, ◌^◌, ℤ, pos, ◌+ℤ◌, ◌*ℤ◌, Bool, true, false, ◌==◌, if◌then◌else◌, List, Option, Some, None}
+use Rattle.std.specs.Prelude.{ℕ, ◌+◌, ◌*◌, ◌/◌, ◌%◌, ◌^◌, ℤ, pos, ◌+ℤ◌, ◌*ℤ◌, Bool, true, false, ◌==◌, if◌then◌else◌}
+use Rattle.std.specs.Prelude.{List, Option, Some, None}
 use Rattle.std.specs.Int.{w32}
 use Rattle.std.specs.Option.{option_and_then, option_map_or}
 use Rattle.alpha_words.specs.declared.Completion.{Completion}
@@ -14,7 +15,8 @@ use Rattle.alpha_table.specs.declared.rows.MemOp.TheVariants.{Ldah}
 use Rattle.alpha_table.specs.declared.rows.Extension.{Extension}
 use Rattle.alpha_table.specs.declared.rows.Extension.TheVariants.{Zero, Sign}
 use Rattle.alpha_table.specs.declared.columns.MemAccess.{MemAccess}
-use Rattle.alpha_table.specs.Class.{Class, operate, trigger, address, load, store, load_locked, store_conditional, branch, jump, barrier, idle}
+use Rattle.alpha_table.specs.Class.{Class, operate, trigger, address, load, store, load_locked, store_conditional}
+use Rattle.alpha_table.specs.Class.{branch, jump, barrier, idle}
 use Rattle.alpha_table.specs.Code.{class_at}
 use Rattle.alpha_values.specs.Numbers.{signed, register_of}
 use Rattle.alpha_values.specs.Op.{result_of}
@@ -28,7 +30,7 @@ use Rattle.alpha_mem.specs.Intent.{Intent, Load, Store}
 use Rattle.alpha_mem.specs.Block.{Block, shapes}
 use Rattle.alpha_mem.specs.Fault.{fault_of}
 use Rattle.alpha_mem.specs.Memory.{bytes_at, write_bytes}
-use Rattle.alpha_pal.specs.Call.{Silent, Called, goes, exits, signals, call}
+use Rattle.alpha_pal.specs.Call.{Silent, Called, continues, exits, signals, call}
 use Rattle.alpha_image.specs.Parts.{place_of}
 use Rattle.alpha_seq.specs.declared.end.End.{End}
 use Rattle.alpha_seq.specs.declared.end.End.TheVariants as ends
@@ -70,12 +72,14 @@ logging s rc value = record s {
 
 -- an overflow, whose completed value is given
 abbrev pub overflowed : Completion → State → ℕ → ℕ → Stepped
-overflowed how s rc value = if stops how then ended s (ends.Overflow s.pc) else stepped (logging s rc value) (Overflowed s.pc)
+overflowed completion s rc value =
+    if stops completion then ended s (ends.Overflow s.pc) else stepped (logging s rc value) (Overflowed s.pc)
 
 -- an instruction that may overflow; where it doesn't, its completed value is its exact result
 abbrev pub trap : Completion → TrapOp → ℕ → ℕ → ℕ → State → Stepped
-trap how op a b rc s =
-    if overflow_of op a b then overflowed how s rc (completed_of op a b how) else went (setting s rc (completed_of op a b how))
+trap completion op a b rc s =
+    if overflow_of op a b then overflowed completion s rc (completed_of op a b completion)
+    else went (setting s rc (completed_of op a b completion))
 
 -- ---- addresses and accesses
 
@@ -120,7 +124,8 @@ matches lock block = option_map_or (λ n. n == block) lock false
 
 -- after a conditional store, which writes its register after the memory; the flag is clear in both cases
 abbrev pub conditional : Bool → MemAccess → ℕ → State → State
-conditional true at ra s = record s { regs = put s.regs ra 1; pc = next_pc s; mem = written_memory at ra s; lock = None }
+conditional true at ra s =
+    record s { regs = put s.regs ra 1; pc = next_pc s; mem = written_memory at ra s; lock = None }
 conditional false at ra s = record s { regs = put s.regs ra 0; pc = next_pc s; lock = None }
 
 -- ---- turns
@@ -147,7 +152,7 @@ lock_after Callsys lock = None
 lock_after function lock = lock
 
 abbrev pub returned : PalCall → Called → State → Stepped
-returned function (goes regs mem unique traffic) s =
+returned function (continues regs mem unique traffic) s =
     stepped (record s { regs = regs; pc = next_pc s; mem = mem; unique = unique; lock = lock_after function s.lock })
     (Barriered traffic (next_pc s) regs)
 returned function (exits v) s = ended s (ends.Exit v)
@@ -164,13 +169,14 @@ abbrev pub step : Program → Option Class → State → List ℕ → Stepped
 step g None s input = ended s (ends.Fetch s.pc)
 step g (Some (operate op ra src rc)) s input =
     went (setting s rc (result_of g.image.level op (reg s.regs ra) (source_value s.regs src) (reg s.regs rc)))
-step g (Some (trigger op ra src rc)) s input = trap g.how op (reg s.regs ra) (source_value s.regs src) rc s
+step g (Some (trigger op ra src rc)) s input = trap g.completion op (reg s.regs ra) (source_value s.regs src) rc s
 step g (Some (address op ra rb disp)) s input = went (setting s ra (computed op (reg s.regs rb) disp))
 step g (Some (load extension at ra)) s input = accessing Load at s (setting s ra (loaded extension at s))
 step g (Some (store at ra)) s input = accessing Store at s (record (onward s) { mem = written_memory at ra s })
 step g (Some (load_locked extension at ra)) s input =
     accessing Load at s (record (setting s ra (loaded extension at s)) { lock = Some (lock_block at s) })
-step g (Some (store_conditional at ra)) s input = accessing Store at s (conditional (matches s.lock (lock_block at s)) at ra s)
+step g (Some (store_conditional at ra)) s input =
+    accessing Store at s (conditional (matches s.lock (lock_block at s)) at ra s)
 step g (Some (branch condition ra disp)) s input = went (branched condition ra disp s)
 step g (Some (jump ra rb)) s input = went (jumped ra rb s)
 step g (Some (barrier None)) s input = stepped (onward s) (Barriered Silent (next_pc s) s.regs)

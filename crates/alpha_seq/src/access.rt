@@ -12,7 +12,7 @@ ghost use Rattle.alpha_values.specs.Numbers.{signed, register_of};
 ghost use Rattle.alpha_seq.specs.Step.{fault_end, accessed, loaded};
 ghost use Rattle.alpha_seq.specs.State.{Went};
 ghost use Rattle.alpha_seq.specs.Machine.{state_of};
-ghost use Rattle.alpha_seq.specs.Executed.{Does, FaultEffect, IsSized, filled, row_access};
+ghost use Rattle.alpha_seq.specs.Executed.{ExecutesWord, FaultEffect, IsSized, filled, row_access};
 
 use crate::{End, Machine};
 use alpha_mem::{MemFault, Size};
@@ -31,7 +31,7 @@ impl Machine {
         rb: Reg,
         disp: i16,
     ) -> Result<(), MemFault>
-        ensures went { OnOk result (Does Went (class_of (Mem op ra rb disp)) self.old self.new) }
+        ensures went { OnOk result (ExecutesWord Went (class_of (Mem op ra rb disp)) self.old self.new) }
         ensures fault { IfErr result (λ fault. FaultEffect fault (class_of (Mem op ra rb disp))
             (row_access op rb disp) self.old self.new) }
     {
@@ -70,7 +70,7 @@ impl Machine {
     fn load(&mut self, extension: Extension, at: &MemAccess, ra: Reg) -> Result<(), MemFault>
         requires { IsSized at.now.bytes }
         ensures went { let class = if ra == 31 then idle else load extension at.now ra in
-            OnOk result (Does Went class self.old self.new) }
+            OnOk result (ExecutesWord Went class self.old self.new) }
         ensures fault { let class = if ra == 31 then idle else load extension at.now ra in
             IfErr result (λ fault. FaultEffect fault class at.now self.old self.new) }
     {
@@ -78,7 +78,7 @@ impl Machine {
             self.idle();
             return Ok(());
         }
-        let addr = self.accessed(at);
+        let addr = self.accessed_address(at);
         match self.read(extension, at, addr) {
             Ok(value) => {
                 self.set(ra, value);
@@ -91,11 +91,11 @@ impl Machine {
     #[inline(always)]
     fn load_locked(&mut self, extension: Extension, at: &MemAccess, ra: Reg) -> Result<(), MemFault>
         requires { IsSized at.now.bytes }
-        ensures went { OnOk result (Does Went (load_locked extension at.now ra) self.old self.new) }
+        ensures went { OnOk result (ExecutesWord Went (load_locked extension at.now ra) self.old self.new) }
         ensures fault { IfErr result (λ fault. FaultEffect fault (load_locked extension at.now ra)
             at.now self.old self.new) }
     {
-        let addr = self.accessed(at);
+        let addr = self.accessed_address(at);
         match self.read(extension, at, addr) {
             Ok(value) => {
                 self.set(ra, value);
@@ -109,11 +109,11 @@ impl Machine {
     #[inline(always)]
     fn store(&mut self, at: &MemAccess, ra: Reg) -> Result<(), MemFault>
         requires { IsSized at.now.bytes }
-        ensures went { OnOk result (Does Went (store at.now ra) self.old self.new) }
+        ensures went { OnOk result (ExecutesWord Went (store at.now ra) self.old self.new) }
         ensures fault { IfErr result (λ fault. FaultEffect fault (store at.now ra) at.now
             self.old self.new) }
     {
-        let addr = self.accessed(at);
+        let addr = self.accessed_address(at);
         let value = self.regs.get(ra);
         match self.memory.store(addr, size(at.bytes), value) {
             Ok(()) => {
@@ -128,12 +128,12 @@ impl Machine {
     #[inline(always)]
     fn store_conditional(&mut self, at: &MemAccess, ra: Reg) -> Result<(), MemFault>
         requires { IsSized at.now.bytes }
-        ensures went { OnOk result (Does Went (store_conditional at.now ra) self.old self.new) }
+        ensures went { OnOk result (ExecutesWord Went (store_conditional at.now ra) self.old self.new) }
         ensures fault { IfErr result
             (λ fault. FaultEffect fault (store_conditional at.now ra) at.now
             self.old self.new) }
     {
-        let addr = self.accessed(at);
+        let addr = self.accessed_address(at);
         let value = self.regs.get(ra);
         let succeeds = self.lock == Some(addr / 16);
         let stored = if succeeds {
@@ -153,7 +153,7 @@ impl Machine {
 
     /// The address of an access (Architecture Handbook, section 4.2).
     #[inline(always)]
-    pub fn accessed(&self, at: &MemAccess) -> u64
+    pub fn accessed_address(&self, at: &MemAccess) -> u64
         ensures { result ≡ accessed at.now (state_of self.now) }
     {
         access_address(at, self.regs.get(at.base))

@@ -1,12 +1,12 @@
 ghost use Rattle.std.specs.Prelude.{◌≡◌, Some, IsTrue, IfOk, IfErr};
-ghost use Rattle.alpha_io.specs.Sunk.{sunk};
+ghost use Rattle.alpha_io.specs.SinkChange.{sink_change};
 ghost use Rattle.alpha_table.specs.Class.{barrier};
 ghost use Rattle.alpha_pal.specs.CallEffect.{kernel_after};
 ghost use Rattle.alpha_mem.specs.Block.{shapes};
 ghost use Rattle.alpha_seq.specs.Step.{next_pc, lock_after};
 ghost use Rattle.alpha_seq.specs.Machine.{program_of, state_of, class_here};
 ghost use Rattle.alpha_seq.specs.Devices.{drawn};
-ghost use Rattle.alpha_seq.specs.Sequential.{SeqMakes, SeqBreaks};
+ghost use Rattle.alpha_seq.specs.Sequential.{SeqStepEffect, FaultedSeqStep};
 
 use crate::{End, Event, Fault, Machine};
 use alpha_io::{Sink, Source};
@@ -24,12 +24,12 @@ impl Machine {
     ) -> Result<Event, Fault>
         requires user { IsTrue self.old.kernel.user }
         requires class { class_here self.old ≡ Some (barrier (Some function)) }
-        ensures made { IfOk result (λ event. SeqMakes event self.old self.new
+        ensures made { IfOk result (λ event. SeqStepEffect event self.old self.new
             (drawn S.Source input.old input.new)
-            (sunk K.Sink out.old out.new)) }
-        ensures broken { IfErr result (λ fault. SeqBreaks fault self.old self.new
+            (sink_change K.Sink out.old out.new)) }
+        ensures broken { IfErr result (λ fault. FaultedSeqStep fault self.old self.new
             (drawn S.Source input.old input.new)
-            (sunk K.Sink out.old out.new)) }
+            (sink_change K.Sink out.old out.new)) }
         ensures kernel { self.new.kernel ≡ kernel_after function
             (next_pc (state_of self.old)) self.old.regs self.old.kernel }
         ensures shapes { shapes self.new.memory ≡ shapes self.old.memory }

@@ -1,5 +1,5 @@
 ghost use Rattle.std.specs.Prelude.{◌≡◌};
-ghost use Rattle.alpha_seq.specs.Print.{is_over};
+ghost use Rattle.alpha_seq.specs.StepLabel.{is_over};
 
 use crate::End;
 use alpha_pal::Passed;

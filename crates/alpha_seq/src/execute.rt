@@ -21,7 +21,7 @@ impl Machine {
                 Some(op) => return self.trigger(op, ra, &src, rc),
             },
             Form::Mem { op, ra, rb, disp } => {
-                let addr = self.accessed(&memory_access(op, rb, disp));
+                let addr = self.accessed_address(&memory_access(op, rb, disp));
                 let pc = self.pc;
                 if let Err(fault) = self.memory_word(op, ra, rb, disp) {
                     return Event::Ended(fault_end(fault, pc, addr));

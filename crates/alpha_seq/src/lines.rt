@@ -4,7 +4,8 @@ ghost use Rattle.alpha_io.specs.declared.line.TheConstants.{LINE_ROOM};
 ghost use Rattle.alpha_io.specs.Faults.{HasCause};
 ghost use Rattle.alpha_io.specs.Written.{WritesPrefix};
 ghost use Rattle.alpha_words.specs.Regs.{reg};
-ghost use Rattle.alpha_seq.specs.Notes.{overflow_line, register_line, register_lines, eight_registers, sixteen_registers, barrier_line, barrier_lines, end_line};
+ghost use Rattle.alpha_seq.specs.Notes.{overflow_line, register_line, register_lines, eight_registers};
+ghost use Rattle.alpha_seq.specs.Notes.{sixteen_registers, barrier_line, barrier_lines, end_line};
 
 use crate::End;
 use alpha_io::{Failed, Line, Sink, write_whole};

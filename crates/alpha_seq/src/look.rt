@@ -94,7 +94,7 @@ impl Machine {
             result ≡ option_map (λ fault. fault_end fault self.now.pc addr)
             (fault_of (shapes self.now.memory) Load addr at.now.bytes) }
     {
-        let addr = self.accessed(at);
+        let addr = self.accessed_address(at);
         match self.memory.load(addr, size(at.bytes)) {
             Ok(_) => None,
             Err(fault) => Some(fault_end(fault, self.pc, addr)),
@@ -108,7 +108,7 @@ impl Machine {
             result ≡ option_map (λ fault. fault_end fault self.now.pc addr)
             (fault_of (shapes self.now.memory) Store addr at.now.bytes) }
     {
-        let addr = self.accessed(at);
+        let addr = self.accessed_address(at);
         match self.memory.writable(addr, size(at.bytes)) {
             Ok(()) => None,
             Err(fault) => Some(fault_end(fault, self.pc, addr)),

@@ -22,7 +22,7 @@ pub struct Machine {
     /// The number in the lock flag, an address divided by 16; `None` where the flag is clear.
     pub lock: Option<u64>,
     /// What an instruction that overflows leaves.
-    pub how: Completion,
+    pub completion: Completion,
     /// How many overflows were logged, modulo 2^64.
     pub overflows: u64,
     /// The address of the last logged overflow, 0 where there is none.

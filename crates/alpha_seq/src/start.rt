@@ -18,9 +18,9 @@ const STACK_END: u64 = 1 << 30;
 impl Machine {
     /// The machine in the state at the start: R27 is the entry address, R30 is 2^30 and all other
     /// registers are 0; the data bytes are the image's and all other bytes that may be written are 0.
-    /// `how` is what an instruction that overflows leaves. `NoMemory` where memory runs out.
-    pub fn new(alloc: Global, image: Image, how: Completion) -> Result<Machine, NoMemory>
-        ensures program { IfOk result (λ m. program_of m ≡ record { image = image; how = how }) }
+    /// `completion` is what an instruction that overflows leaves. `NoMemory` where memory runs out.
+    pub fn new(alloc: Global, image: Image, completion: Completion) -> Result<Machine, NoMemory>
+        ensures program { IfOk result (λ m. program_of m ≡ record { image = image; completion = completion }) }
         ensures start { IfOk result (λ m. state_of m ≡ start (program_of m)) }
         ensures kernel { IfOk result (λ m. m.kernel ≡ new_kernel) }
     {
@@ -35,7 +35,7 @@ impl Machine {
             pc: entry,
             unique: 0,
             lock: None,
-            how,
+            completion,
             overflows: 0,
             last: 0,
         })

@@ -1,11 +1,11 @@
 ghost use Rattle.std.specs.Prelude.{◌≡◌, IsTrue, IfOk, IfErr};
-ghost use Rattle.alpha_io.specs.Sunk.{sunk};
+ghost use Rattle.alpha_io.specs.SinkChange.{sink_change};
 ghost use Rattle.alpha_mem.specs.Block.{shapes};
 ghost use Rattle.alpha_seq.specs.Step.{next_pc};
 ghost use Rattle.alpha_seq.specs.Machine.{program_of, state_of, class_here, kernel_left, Stays};
 ghost use Rattle.alpha_seq.specs.Next.{next_insn};
 ghost use Rattle.alpha_seq.specs.Devices.{drawn};
-ghost use Rattle.alpha_seq.specs.Sequential.{SeqMakes, SeqBreaks};
+ghost use Rattle.alpha_seq.specs.Sequential.{SeqStepEffect, FaultedSeqStep};
 
 use crate::{End, Event, Fault, Machine};
 use alpha_io::{Sink, Source};
@@ -20,12 +20,12 @@ impl Machine {
     /// and all else but the kernel's frame is as it was.
     pub fn step<S: Source, K: Sink>(&mut self, input: &mut S, out: &mut K) -> Result<Event, Fault>
         requires { IsTrue self.old.kernel.user }
-        ensures made { IfOk result (λ event. SeqMakes event self.old self.new
+        ensures made { IfOk result (λ event. SeqStepEffect event self.old self.new
             (drawn S.Source input.old input.new)
-            (sunk K.Sink out.old out.new)) }
-        ensures broken { IfErr result (λ fault. SeqBreaks fault self.old self.new
+            (sink_change K.Sink out.old out.new)) }
+        ensures broken { IfErr result (λ fault. FaultedSeqStep fault self.old self.new
             (drawn S.Source input.old input.new)
-            (sunk K.Sink out.old out.new)) }
+            (sink_change K.Sink out.old out.new)) }
         ensures kernel { self.new.kernel ≡ kernel_left (class_here self.old)
             (next_pc (state_of self.old)) self.old.regs self.old.kernel }
         ensures shapes { shapes self.new.memory ≡ shapes self.old.memory }
@@ -45,12 +45,12 @@ impl Machine {
     ) -> Result<Event, Fault>
         requires here { insn ≡ next_insn (program_of self.old) self.old.pc }
         requires user { IsTrue self.old.kernel.user }
-        ensures made { IfOk result (λ event. SeqMakes event self.old self.new
+        ensures made { IfOk result (λ event. SeqStepEffect event self.old self.new
             (drawn S.Source input.old input.new)
-            (sunk K.Sink out.old out.new)) }
-        ensures broken { IfErr result (λ fault. SeqBreaks fault self.old self.new
+            (sink_change K.Sink out.old out.new)) }
+        ensures broken { IfErr result (λ fault. FaultedSeqStep fault self.old self.new
             (drawn S.Source input.old input.new)
-            (sunk K.Sink out.old out.new)) }
+            (sink_change K.Sink out.old out.new)) }
         ensures kernel { self.new.kernel ≡ kernel_left (class_here self.old)
             (next_pc (state_of self.old)) self.old.regs self.old.kernel }
         ensures shapes { shapes self.new.memory ≡ shapes self.old.memory }

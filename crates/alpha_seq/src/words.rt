@@ -7,7 +7,7 @@ ghost use Rattle.alpha_values.specs.Source.{source_value};
 ghost use Rattle.alpha_values.specs.TrapOp.{overflow_of, completed_of};
 ghost use Rattle.alpha_seq.specs.State.{Went};
 ghost use Rattle.alpha_seq.specs.Step.{computed};
-ghost use Rattle.alpha_seq.specs.Executed.{Does, ExecuteEffect, logged_machine};
+ghost use Rattle.alpha_seq.specs.Executed.{ExecutesWord, ExecuteEffect, logged_machine};
 
 use crate::{End, Event, Machine};
 use alpha_table::{BranchOp, MemOp, Op, Src, TrapOp};
@@ -18,7 +18,7 @@ use alpha_words::{Completion, Reg};
 impl Machine {
     #[inline(always)]
     pub(crate) fn operate(&mut self, op: Op, ra: Reg, src: &Src, rc: Reg)
-        ensures { Does Went (operate op ra src.now rc) self.old self.new }
+        ensures { ExecutesWord Went (operate op ra src.now rc) self.old self.new }
     {
         let a = self.regs.get(ra);
         let b = self.source(src);
@@ -35,7 +35,7 @@ impl Machine {
             return Event::Went;
         }
         let at = self.pc;
-        if self.how == Completion::Stop {
+        if self.completion == Completion::Stop {
             return Event::Ended(End::Overflow { pc: at });
         }
         let a = self.regs.get(ra);
@@ -47,7 +47,7 @@ impl Machine {
     // Executes an instruction that may trap, if it doesn't overflow.
     #[inline(always)]
     pub(crate) fn exactly(&mut self, op: TrapOp, ra: Reg, src: &Src, rc: Reg) -> bool
-        ensures went { IsTrue result → Does Went (trigger op ra src.now rc) self.old self.new }
+        ensures went { IsTrue result → ExecutesWord Went (trigger op ra src.now rc) self.old self.new }
         ensures stays { result ≡ false → self.new ≡ self.old }
         ensures overflows { result ≡ false
             → overflow_of op (reg self.old.regs ra) (source_value self.old.regs src.now) ≡ true }
@@ -66,7 +66,7 @@ impl Machine {
     #[inline(always)]
     fn exact(&self, op: TrapOp, a: u64, b: u64) -> u64
         requires { overflow_of op a b ≡ false }
-        ensures { result ≡ completed_of op a b self.now.how }
+        ensures { result ≡ completed_of op a b self.now.completion }
     {
         completed(op, a, b, Completion::Wrap)
     }
@@ -74,9 +74,9 @@ impl Machine {
     // Completes an overflow, and logs it.
     #[inline(never)]
     fn complete(&mut self, op: TrapOp, a: u64, b: u64, rc: Reg)
-        ensures { self.new ≡ logged_machine self.old rc (completed_of op a b self.old.how) }
+        ensures { self.new ≡ logged_machine self.old rc (completed_of op a b self.old.completion) }
     {
-        let value = completed(op, a, b, self.how);
+        let value = completed(op, a, b, self.completion);
         self.last = self.pc;
         self.set(rc, value);
         self.lock = None;
@@ -85,7 +85,7 @@ impl Machine {
 
     #[inline(always)]
     pub(crate) fn address(&mut self, op: MemOp, ra: Reg, rb: Reg, disp: i16)
-        ensures { Does Went (address op ra rb disp) self.old self.new }
+        ensures { ExecutesWord Went (address op ra rb disp) self.old self.new }
     {
         let value = computed(op, self.regs.get(rb), disp);
         self.set(ra, value);
@@ -93,7 +93,7 @@ impl Machine {
 
     #[inline(always)]
     pub(crate) fn branch(&mut self, op: BranchOp, ra: Reg, disp: i32)
-        ensures { Does Went (branch (branch_row op).condition ra disp) self.old self.new }
+        ensures { ExecutesWord Went (branch (branch_row op).condition ra disp) self.old self.new }
     {
         let target = branch_target(self.pc, disp);
         match op.row().condition {
@@ -108,7 +108,7 @@ impl Machine {
 
     #[inline(always)]
     pub(crate) fn jump(&mut self, ra: Reg, rb: Reg)
-        ensures { Does Went (jump ra rb) self.old self.new }
+        ensures { ExecutesWord Went (jump ra rb) self.old self.new }
     {
         let target = self.regs.get(rb);
         self.set(ra, self.next_pc());
@@ -117,7 +117,7 @@ impl Machine {
 
     #[inline(always)]
     pub(crate) fn idle(&mut self)
-        ensures { Does Went idle self.old self.new }
+        ensures { ExecutesWord Went idle self.old self.new }
     {
         self.advance();
     }

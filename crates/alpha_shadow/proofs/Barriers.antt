@@ -1,16 +1,19 @@
 -- A barrier breaks nothing, and ends every shadow.
 use Rattle.std.proofs.Common.{◌≡◌, ◌+◌, ℕ, Some, None, List, [], sym, ◌∙◌, inr, refl}
 use Rattle.alpha_table.specs.declared.columns.InsnKind.TheVariants as kinds
-use Rattle.alpha_shadow.specs.declared.broken.Condition.TheVariants.{ZeroDestination, SourceLost, SameDestination, WildBase, LoadThenStore, Locked, Turn, Long}
+use Rattle.alpha_shadow.specs.declared.broken.Condition.TheVariants.{ZeroDestination, SourceLost, SameDestination}
+use Rattle.alpha_shadow.specs.declared.broken.Condition.TheVariants.{WildBase, LoadThenStore, Locked, Turn, Long}
 use Rattle.alpha_shadow.specs.declared.window.Window.{Window}
 use Rattle.alpha_shadow.specs.Code.{kind_at, SetIn}
 use Rattle.alpha_shadow.specs.Columns.{destination_of}
 use Rattle.alpha_shadow.specs.Window.{Summarizes, UsedIn, open_triggers}
 use Rattle.alpha_shadow.specs.Place.{IsLeastUpTo}
 use Rattle.alpha_shadow.proofs.Tables.{kind_within, no_access, no_set}
-use Rattle.alpha_shadow.proofs.Places.{zero_missing, lost_nothing, same_missing, wild_missing, no_store, locked_missing, turn_missing}
+use Rattle.alpha_shadow.proofs.Places.{zero_missing, lost_nothing, same_missing, WildBase-no_access, no_store}
+use Rattle.alpha_shadow.proofs.Places.{locked_missing}
+use Rattle.alpha_shadow.proofs.Places.{turn_missing}
 use Rattle.alpha_shadow.proofs.Long.{none_long}
-use Rattle.alpha_shadow.proofs.Steps.{nothing_yet, skip, open_next}
+use Rattle.alpha_shadow.proofs.Steps.{nothing_yet, IsLeastUpTo-skip, open_next}
 use Rattle.alpha_shadow.proofs.Shadows.{open_triggers_next, no_triggers}
 use Rattle.alpha_shadow.proofs.OpenLoads.{no_loads}
 use Rattle.alpha_shadow.proofs.Ends.{ends_skip}
@@ -18,20 +21,26 @@ use Rattle.alpha_shadow.proofs.Ends.{ends_skip}
 pub breaks_nothing : (code : List ℕ) (at : ℕ) → kind_at code at ≡ Some kinds.Barrier → IsLeastUpTo code at 9 None
 breaks_nothing code at barrier =
     let access = no_access code at kinds.Barrier barrier (inr (inr (inr refl))) in
-    let c1 = skip code at 0 ZeroDestination None refl (zero_missing code at (λ q. let t = q.0 in cc)) (nothing_yet code at) in
-    let c2 = skip code at 1 SourceLost None refl (lost_nothing code at (no_set code at barrier)) c1 in
-    let c3 = skip code at 2 SameDestination None refl (same_missing code at (λ q. cc)) c2 in
-    let c4 = skip code at 3 WildBase None refl (wild_missing code at access) c3 in
-    let c5 = skip code at 4 LoadThenStore None refl (no_store code at (λ q. q.1 access)) c4 in
-    let c6 = skip code at 5 Locked None refl (locked_missing code at (λ q. cc)) c5 in
-    let c7 = skip code at 6 Turn None refl (turn_missing code at (λ q. cc)) c6 in
-    skip code at 8 Long None refl (none_long code at (inr barrier)) (open_next code at None (kind_within code at kinds.Barrier barrier) c7)
+    let c1 =
+    IsLeastUpTo-skip code at 0 ZeroDestination None refl (zero_missing code at (λ q. let t = q.0 in cc))
+    (nothing_yet code at) in
+    let c2 = IsLeastUpTo-skip code at 1 SourceLost None refl (lost_nothing code at (no_set code at barrier)) c1 in
+    let c3 = IsLeastUpTo-skip code at 2 SameDestination None refl (same_missing code at (λ q. cc)) c2 in
+    let c4 = IsLeastUpTo-skip code at 3 WildBase None refl (WildBase-no_access code at access) c3 in
+    let c5 = IsLeastUpTo-skip code at 4 LoadThenStore None refl (no_store code at (λ q. q.1 access)) c4 in
+    let c6 = IsLeastUpTo-skip code at 5 Locked None refl (locked_missing code at (λ q. cc)) c5 in
+    let c7 = IsLeastUpTo-skip code at 6 Turn None refl (turn_missing code at (λ q. cc)) c6 in
+    IsLeastUpTo-skip code at 8 Long None refl (none_long code at (inr barrier))
+    (open_next code at None (kind_within code at kinds.Barrier barrier) c7)
 
 -- a window behind a barrier, which leaves nothing in it
-pub closed : (code : List ℕ) (at : ℕ) (w after : Window) → Summarizes code w at → kind_at code at ≡ Some kinds.Barrier
-    → after.triggers.items ≡ [] → after.loads.items ≡ [] → after.set ≡ w.set → after.used ≡ w.used → Summarizes code after (at + 1)
-closed code at w after s k t l set used =
-    let none : open_triggers code (at + 1) ≡ [] = open_triggers_next code at kinds.Barrier (destination_of code at) k refl in
+pub Summarizes-behind_barrier : (code : List ℕ) (at : ℕ) (w after : Window) → Summarizes code w at
+    → kind_at code at ≡ Some kinds.Barrier
+    → after.triggers.items ≡ [] → after.loads.items ≡ [] → after.set ≡ w.set → after.used ≡ w.used
+    → Summarizes code after (at + 1)
+Summarizes-behind_barrier code at w after s k t l set used =
+    let none : open_triggers code (at + 1) ≡ [] =
+    open_triggers_next code at kinds.Barrier (destination_of code at) k refl in
     let nothing = no_triggers code (at + 1) none in
     record {
       triggers = t ∙ sym none;

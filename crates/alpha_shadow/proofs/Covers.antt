@@ -3,7 +3,7 @@ use Rattle.std.proofs.Common.{◌++◌, ◌∷◌, [], List, zero, suc, Option, 
 use Rattle.std.proofs.lemmas.Int.{ints}
 use Rattle.std.proofs.lemmas.List.Elements.{All-append}
 use Rattle.alpha_shadow.specs.declared.loads.Reach.{Reach}
-use Rattle.alpha_shadow.specs.Held.{IsAround, IsCover}
+use Rattle.alpha_shadow.specs.OpenLists.{IsAround, IsCover}
 
 around_both : (both cover load : Reach) → IsAround both cover → IsAround cover load → IsAround both load
 around_both both cover load outer inner =
@@ -19,7 +19,9 @@ around_one both load around (suc k) d l = absurd (omega arith)
 
 -- what joins the cover and one more load is a cover of all
 pub cover_joined : (cover load : Reach) (joined : Option Reach) (loads : List Reach) → All (IsAround cover) loads
-    → IfSome joined (λ both. IsAround both cover) → IfSome joined (λ both. IsAround both load) → IsCover joined (loads ++ load ∷ [])
+    → IfSome joined (λ both. IsAround both cover) → IfSome joined (λ both. IsAround both load)
+    → IsCover joined (loads ++ load ∷ [])
 cover_joined cover load None loads all first second = tt
 cover_joined cover load (Some both) loads all first second =
-    All-append (IsAround both) loads (load ∷ []) (λ k d l. around_both both cover _ first (all k d l)) (around_one both load second)
+    All-append (IsAround both) loads (load ∷ []) (λ k d l. around_both both cover _ first (all k d l))
+    (around_one both load second)

@@ -8,8 +8,8 @@ pub mod Ends
 pub mod Places
 pub mod Long
 pub mod Steps
-pub mod Passing
-pub mod Judging
+pub mod WindowSteps
+pub mod CodeWalk
 pub mod Decided
 pub mod Stretches
 pub mod Alone

@@ -26,17 +26,22 @@ long_first code at unbroken within not = by_first code at Long (λ p. p + 1025 �
     (λ p o q. let n = not_past code at p unbroken (omega arith) o in (omega arith, within, not))
     (λ p b. let e = b.holds.0 in (broken_open code p at Long b (λ n. omega arith), omega arith))
 
-pub long_found : (code : List ℕ) (at first : ℕ) → IsUnbroken code at → at < length code → kind_at code at ≢ Some kinds.Barrier
+pub long_found : (code : List ℕ) (at first : ℕ) → IsUnbroken code at → at < length code
+    → kind_at code at ≢ Some kinds.Barrier
     → IsFirstThat code at (λ p. Unit {0}) (Some first) → first + 1025 ≤ at → IsFirstBroken code at Long (Some first)
 long_found code at first unbroken within not f q =
     long_first code at unbroken within not (Some first) (first_has code at (λ p. p + 1025 ≤ at) first f q)
 
-pub long_missing : (code : List ℕ) (at first : ℕ) → IsUnbroken code at → at < length code → kind_at code at ≢ Some kinds.Barrier
+pub long_missing : (code : List ℕ) (at first : ℕ) → IsUnbroken code at → at < length code
+    → kind_at code at ≢ Some kinds.Barrier
     → IsFirstThat code at (λ p. Unit {0}) (Some first) → at < first + 1025 → IsFirstBroken code at Long None
 long_missing code at first unbroken within not f q =
-    long_first code at unbroken within not None (first_lacks code at (λ p. p + 1025 ≤ at) first f (λ p above h. omega arith) (λ h. omega arith))
+    long_first code at unbroken within not None
+    (first_lacks code at (λ p. p + 1025 ≤ at) first f (λ p above h. omega arith) (λ h. omega arith))
 
-pub none_long : (code : List ℕ) (at : ℕ) → (IsFirstThat code at (λ p. Unit {0}) None) ⊎ (kind_at code at ≡ Some kinds.Barrier) → IsFirstBroken code at Long None
+pub none_long : (code : List ℕ) (at : ℕ)
+    → (IsFirstThat code at (λ p. Unit {0}) None) ⊎ (kind_at code at ≡ Some kinds.Barrier)
+    → IsFirstBroken code at Long None
 none_long code at either = λ p b. let e = b.holds.0 in ⊎_elim
     (λ (f : IsFirstThat code at (λ p. Unit {0}) None). f p (broken_open code p at Long b (λ n. omega arith)) tt)
     (λ k. b.holds.2 k)

@@ -1,5 +1,7 @@
 -- The open triggers, word by word.
-use Rattle.std.proofs.Common.{◌≡◌, ◌≢◌, ◌≤◌, ◌+◌, ◌⊎◌, ℕ, zero, suc, Bool, true, false, Option, Some, None, List, [], ◌∷◌, ◌++◌, length, find, slice_get, cond, sym, subst, refl, inl, inr, ⊎_elim, arith, add-one, length-append}
+use Rattle.std.proofs.Common.{◌≡◌, ◌≢◌, ◌≤◌, ◌+◌, ◌⊎◌, ℕ, zero, suc, Bool, true, false, Option, Some, None, List, []}
+use Rattle.std.proofs.Common.{◌∷◌, ◌++◌, length, find, slice_get, cond, sym, subst, refl, inl, inr, ⊎_elim, arith}
+use Rattle.std.proofs.Common.{add-one, length-append}
 use Rattle.std.specs.Option.{option_map, option_or}
 use Rattle.std.proofs.lemmas.Bool.{cases_eq}
 use Rattle.std.proofs.lemmas.List.Folds.{find-append}
@@ -12,20 +14,22 @@ use Rattle.alpha_table.specs.Code.{Straight}
 use Rattle.alpha_shadow.specs.Window.{IsOpen, IsFirstThat, trigger_at, next_triggers, open_triggers}
 
 -- a word that ends no shadow
-abbrev pub GoesOn : List ℕ → ℕ → Type 0
-GoesOn code n = (kind_at code n ≢ Some kinds.Barrier) × (kind_at code n ≢ Some kinds.Turn)
+abbrev pub ShadowContinues : List ℕ → ℕ → Type 0
+ShadowContinues code n = (kind_at code n ≢ Some kinds.Barrier) × (kind_at code n ≢ Some kinds.Turn)
 
-pub open_before : (code : List ℕ) (n p : ℕ) → IsOpen code p (suc n) → GoesOn code n
+pub open_before : (code : List ℕ) (n p : ℕ) → IsOpen code p (suc n) → ShadowContinues code n
 open_before code n p h = let b = h.before in h.straight n (omega arith) (omega arith)
 
-pub Straight-suc : (code : List ℕ) (from n : ℕ) → Straight code from n → GoesOn code n → Straight code from (suc n)
+pub Straight-suc : (code : List ℕ) (from n : ℕ) → Straight code from n → ShadowContinues code n
+    → Straight code from (suc n)
 Straight-suc code from n s on = λ k above below. ⊎_elim
-    (λ (e : k ≡ n). subst (GoesOn code) (sym e) on)
+    (λ (e : k ≡ n). subst (ShadowContinues code) (sym e) on)
     (λ (e : k ≡ n → ⊥). s k above (omega arith))
     (cases_eq k n)
 
-pub open_still : (code : List ℕ) (n p : ℕ) → GoesOn code n → IsOpen code p n → IsOpen code p (suc n)
-open_still code n p on h = record { kind = h.kind; before = let b = h.before in omega arith; straight = Straight-suc code p n h.straight on }
+pub open_still : (code : List ℕ) (n p : ℕ) → ShadowContinues code n → IsOpen code p n → IsOpen code p (suc n)
+open_still code n p on h =
+    record { kind = h.kind; before = let b = h.before in omega arith; straight = Straight-suc code p n h.straight on }
 
 pub open_new : (code : List ℕ) (n : ℕ) → kind_at code n ≡ Some kinds.Trigger → IsOpen code n (suc n)
 open_new code n e = record {
@@ -34,10 +38,15 @@ open_new code n e = record {
   straight = Straight-suc code n n (λ k above below. absurd (omega arith)) (λ b. cc, λ t. cc);
 }
 
-pub open_cases : (code : List ℕ) (n p : ℕ) → IsOpen code p (suc n) → IsOpen code p n ⊎ ((p ≡ n) × (kind_at code n ≡ Some kinds.Trigger))
+pub open_cases : (code : List ℕ) (n p : ℕ) → IsOpen code p (suc n)
+    → IsOpen code p n ⊎ ((p ≡ n) × (kind_at code n ≡ Some kinds.Trigger))
 open_cases code n p h = ⊎_elim
     (λ (e : p ≡ n). inr (e, subst (λ k. kind_at code k ≡ Some kinds.Trigger) e h.kind))
-    (λ (e : p ≡ n → ⊥). inl (record { kind = h.kind; before = let b = h.before in omega arith; straight = λ k above below. h.straight k above (omega arith) }))
+    (λ (e : p ≡ n → ⊥). inl (record {
+      kind = h.kind;
+      before = let b = h.before in omega arith;
+      straight = λ k above below. h.straight k above (omega arith);
+    }))
     (cases_eq p n)
 
 -- an open trigger that passes a test, with none before it that does
@@ -47,13 +56,14 @@ pub record IsFirstToPass (code : List ℕ) (at : ℕ) (test : Trigger → Bool) 
   pub passes : test t ≡ true
   pub least : (p : ℕ) → IsOpen code p at → test (trigger_at code p) ≡ true → t.place ≤ p
 
-abbrev pub Finds : List ℕ → ℕ → (Trigger → Bool) → Option Trigger → Type 0
-Finds code at test None = (p : ℕ) → IsOpen code p at → test (trigger_at code p) ≡ true → ⊥
-Finds code at test (Some t) = IsFirstToPass code at test t
+abbrev pub FindsTrigger : List ℕ → ℕ → (Trigger → Bool) → Option Trigger → Type 0
+FindsTrigger code at test None = (p : ℕ) → IsOpen code p at → test (trigger_at code p) ≡ true → ⊥
+FindsTrigger code at test (Some t) = IsFirstToPass code at test t
 
 -- a word that is no trigger and ends no shadow
-finds_still : (code : List ℕ) (n : ℕ) (test : Trigger → Bool) → GoesOn code n → kind_at code n ≢ Some kinds.Trigger
-    → (o : Option Trigger) → Finds code n test o → Finds code (suc n) test o
+finds_still : (code : List ℕ) (n : ℕ) (test : Trigger → Bool) → ShadowContinues code n
+    → kind_at code n ≢ Some kinds.Trigger
+    → (o : Option Trigger) → FindsTrigger code n test o → FindsTrigger code (suc n) test o
 finds_still code n test on not None f = λ p h passes. ⊎_elim (λ w. f p w passes) (λ w. not w.1) (open_cases code n p h)
 finds_still code n test on not (Some t) f = record {
   same = f.same;
@@ -64,13 +74,14 @@ finds_still code n test on not (Some t) f = record {
 
 -- one more trigger
 finds_more : (code : List ℕ) (n : ℕ) (test : Trigger → Bool) → kind_at code n ≡ Some kinds.Trigger
-    → (o : Option Trigger) → Finds code n test o → (b : Bool) → test (trigger_at code n) ≡ b
-    → Finds code (suc n) test (option_or o (cond b (Some (trigger_at code n)) None))
+    → (o : Option Trigger) → FindsTrigger code n test o → (b : Bool) → test (trigger_at code n) ≡ b
+    → FindsTrigger code (suc n) test (option_or o (cond b (Some (trigger_at code n)) None))
 finds_more code n test e (Some t) f b eb = record {
   same = f.same;
   there = open_still code n t.place (λ b. cc, λ t. cc) f.there;
   passes = f.passes;
-  least = λ p h passes. ⊎_elim (λ w. f.least p w passes) (λ w. let b = f.there.before in omega (arith, w.0)) (open_cases code n p h);
+  least = λ p h passes.
+      ⊎_elim (λ w. f.least p w passes) (λ w. let b = f.there.before in omega (arith, w.0)) (open_cases code n p h);
 }
 finds_more code n test e None f true eb = record {
   same = refl;
@@ -84,27 +95,29 @@ finds_more code n test e None f false eb = λ p h passes. ⊎_elim
     (open_cases code n p h)
 
 -- a search of the open triggers finds the first that passes
-pub find_open : (code : List ℕ) (test : Trigger → Bool) (at : ℕ) → Finds code at test (find test (open_triggers code at))
+pub find_open : (code : List ℕ) (test : Trigger → Bool) (at : ℕ)
+    → FindsTrigger code at test (find test (open_triggers code at))
 unfolding open_triggers
 find_open code test zero = λ p h passes. let b = h.before in omega arith
 find_open code test (suc n) = by_kind (find_open code test n) (kind_at code n) refl
   where
-    ended : (GoesOn code n → ⊥) → Finds code (suc n) test None
+    ended : (ShadowContinues code n → ⊥) → FindsTrigger code (suc n) test None
     ended not = λ p h passes. not (open_before code n p h)
 
-    by_kind : Finds code n test (find test (open_triggers code n)) → (k : Option InsnKind) → kind_at code n ≡ k
-        → Finds code (suc n) test (find test (next_triggers k (trigger_at code n) (open_triggers code n)))
+    by_kind : FindsTrigger code n test (find test (open_triggers code n)) → (k : Option InsnKind) → kind_at code n ≡ k
+        → FindsTrigger code (suc n) test (find test (next_triggers k (trigger_at code n) (open_triggers code n)))
     by_kind before (Some kinds.Barrier) e = ended (λ on. on.0 e)
     by_kind before (Some kinds.Turn) e = ended (λ on. on.1 e)
     by_kind before (Some kinds.Trigger) e =
-        rw find-append (finds_more code n test e (find test (open_triggers code n)) before (test (trigger_at code n)) refl)
+        rw find-append
+        (finds_more code n test e (find test (open_triggers code n)) before (test (trigger_at code n)) refl)
     by_kind before (Some kinds.Plain) e = finds_still code n test (λ b. cc, λ t. cc) (λ t. cc) _ before
     by_kind before x e = finds_still code n test (λ b. cc, λ t. cc) (λ t. cc) _ before
 
 -- what a search says, where the test decides a fact of the trigger's place
 pub first_that : (code : List ℕ) (at : ℕ) (test : Trigger → Bool) (P : ℕ → Type 0)
     → ((p : ℕ) → test (trigger_at code p) ≡ true → P p) → ((p : ℕ) → P p → test (trigger_at code p) ≡ true)
-    → (o : Option Trigger) → Finds code at test o → IsFirstThat code at P (option_map (λ t. t.place) o)
+    → (o : Option Trigger) → FindsTrigger code at test o → IsFirstThat code at P (option_map (λ t. t.place) o)
 first_that code at test P to from None f = λ p h holds. f p h (from p holds)
 first_that code at test P to from (Some t) f =
     (f.there, to t.place (subst (λ t. test t ≡ true) f.same f.passes), λ p h holds. f.least p h (from p holds))
@@ -114,14 +127,17 @@ find_first [] = refl
 find_first (t ∷ ts) = refl
 
 -- the first of the list is the first of all
-pub first_open : (code : List ℕ) (at : ℕ) → IsFirstThat code at (λ p. Unit {0}) (option_map (λ t. t.place) (slice_get (open_triggers code at) 0))
+pub first_open : (code : List ℕ) (at : ℕ)
+    → IsFirstThat code at (λ p. Unit {0}) (option_map (λ t. t.place) (slice_get (open_triggers code at) 0))
 first_open code at =
     first_that code at (λ t. true) (λ p. Unit {0}) (λ p e. tt) (λ p u. refl) (slice_get (open_triggers code at) 0)
-    (subst (Finds code at (λ t. true)) (find_first (open_triggers code at)) (find_open code (λ t. true) at))
+    (subst (FindsTrigger code at (λ t. true)) (find_first (open_triggers code at)) (find_open code (λ t. true) at))
 
 -- the list after one more word
-pub open_triggers_next : (code : List ℕ) (at : ℕ) (kind : InsnKind) (destination : ℕ) → kind_at code at ≡ Some kind → destination_of code at ≡ destination
-    → open_triggers code (at + 1) ≡ next_triggers (Some kind) (record { place = at; destination = destination }) (open_triggers code at)
+pub open_triggers_next : (code : List ℕ) (at : ℕ) (kind : InsnKind) (destination : ℕ) → kind_at code at ≡ Some kind
+    → destination_of code at ≡ destination
+    → open_triggers code (at + 1)
+    ≡ next_triggers (Some kind) (record { place = at; destination = destination }) (open_triggers code at)
 unfolding open_triggers
 open_triggers_next code at kind destination e f = rw (add-one, e, f) refl
 
@@ -137,8 +153,10 @@ triggers_room code (suc n) f e = by_kind (triggers_room code n) (kind_at code n)
     more [] before e = let same : f ≡ trigger_at code n = cc in rw same (omega arith)
     more (t ∷ ts) before e = let room = before f e in omega (arith, length-append (t ∷ ts) (trigger_at code n ∷ []))
 
-    by_kind : ((f : Trigger) → slice_get (open_triggers code n) 0 ≡ Some f → f.place + length (open_triggers code n) ≤ n)
-        → (k : Option InsnKind) → kind_at code n ≡ k → slice_get (next_triggers k (trigger_at code n) (open_triggers code n)) 0 ≡ Some f
+    by_kind : ((f : Trigger) → slice_get (open_triggers code n) 0 ≡ Some f
+        → f.place + length (open_triggers code n) ≤ n)
+        → (k : Option InsnKind) → kind_at code n ≡ k
+        → slice_get (next_triggers k (trigger_at code n) (open_triggers code n)) 0 ≡ Some f
         → f.place + length (next_triggers k (trigger_at code n) (open_triggers code n)) ≤ suc n
     by_kind before (Some kinds.Barrier) k e = cc
     by_kind before (Some kinds.Turn) k e = cc
@@ -150,9 +168,14 @@ triggers_room code (suc n) f e = by_kind (triggers_room code n) (kind_at code n)
     by_kind before None k e = let room = before f e in omega arith
 
 -- the first of the list is open
-pub first_there : (code : List ℕ) (at : ℕ) (t : Trigger) (ts : List Trigger) → open_triggers code at ≡ t ∷ ts → IsOpen code t.place at
-first_there code at t ts e = (subst (λ ts. IsFirstThat code at (λ p. Unit {0}) (option_map (λ t. t.place) (slice_get ts 0))) e (first_open code at)).0
+pub first_there : (code : List ℕ) (at : ℕ) (t : Trigger) (ts : List Trigger) → open_triggers code at ≡ t ∷ ts
+    → IsOpen code t.place at
+first_there code at t ts e =
+    (subst (λ ts. IsFirstThat code at (λ p. Unit {0}) (option_map (λ t. t.place) (slice_get ts 0))) e
+    (first_open code at)).0
 
 -- an empty list leaves no open trigger
 pub no_triggers : (code : List ℕ) (at : ℕ) → open_triggers code at ≡ [] → (p : ℕ) → IsOpen code p at → ⊥
-no_triggers code at e p h = subst (λ ts. IsFirstThat code at (λ p. Unit {0}) (option_map (λ t. t.place) (slice_get ts 0))) e (first_open code at) p h tt
+no_triggers code at e p h =
+    subst (λ ts. IsFirstThat code at (λ p. Unit {0}) (option_map (λ t. t.place) (slice_get ts 0))) e
+    (first_open code at) p h tt

@@ -1,18 +1,21 @@
 -- What follows from the instruction table for the word at a place. The other lemmas speak of places alone.
-use Rattle.std.proofs.Common.{◌≡◌, ◌<◌, ◌≤◌, ◌⊎◌, ℕ, Bool, true, false, Option, Some, None, List, length, ap, sym, refl, subst, ⊎_elim, ◌==◌, cond, eqb-true}
+use Rattle.std.proofs.Common.{◌≡◌, ◌<◌, ◌≤◌, ◌⊎◌, ℕ, Bool, true, false, Option, Some, None, List, length, ap, sym, refl}
+use Rattle.std.proofs.Common.{subst, ⊎_elim, ◌==◌, cond, eqb-true}
 use Rattle.std.specs.Option.{unwrap_or}
 use Rattle.std.proofs.lemmas.Option.{slice_get_past}
 use Rattle.std.proofs.lemmas.Bool.{cases_lt}
 use Rattle.alpha_table.specs.declared.columns.InsnKind.{InsnKind}
 use Rattle.alpha_table.specs.declared.columns.InsnKind.TheVariants as kinds
-use Rattle.alpha_table.specs.Class.{Class, operate, trigger, address, load, store, load_locked, store_conditional, branch, jump, barrier, idle}
+use Rattle.alpha_table.specs.Class.{Class, operate, trigger, address, load, store, load_locked, store_conditional}
+use Rattle.alpha_table.specs.Class.{branch, jump, barrier, idle}
 use Rattle.alpha_table.specs.Code.{class_kind, class_at, kind, trap_rc}
 use Rattle.alpha_table.specs.Uses.{class_access, but_zero, sets}
 use Rattle.alpha_shadow.specs.Code.{kind_at, destination_at, access_at, sets_at}
 use Rattle.alpha_shadow.specs.Columns.{destination_of}
 
-pub kind_here : (code : List ℕ) (at : ℕ) (c : Class) (k : InsnKind) → class_at code at ≡ Some c → k ≡ class_kind c → kind_at code at ≡ Some k
-kind_here code at c k e f = rw e (ap Some (sym f))
+pub kind_at-class : (code : List ℕ) (at : ℕ) (c : Class) (k : InsnKind) → class_at code at ≡ Some c → k ≡ class_kind c
+    → kind_at code at ≡ Some k
+kind_at-class code at c k e f = rw e (ap Some (sym f))
 
 pub past_end : (code : List ℕ) (at : ℕ) → length code ≤ at → class_at code at ≡ None
 unfolding class_at
@@ -39,10 +42,12 @@ class_destination (operate op ra src rc) e = cc
 class_destination c e = cc
 
 -- what a trigger sets tells its destination
-pub trigger_destination : (code : List ℕ) (at : ℕ) → kind_at code at ≡ Some kinds.Trigger → destination_at code at ≡ Some (destination_of code at)
+pub trigger_destination : (code : List ℕ) (at : ℕ) → kind_at code at ≡ Some kinds.Trigger
+    → destination_at code at ≡ Some (destination_of code at)
 trigger_destination code at e = cases (class_at code at) refl e
   where
-    cases : (o : Option Class) → class_at code at ≡ o → kind o ≡ Some kinds.Trigger → destination_at code at ≡ Some (destination_of code at)
+    cases : (o : Option Class) → class_at code at ≡ o → kind o ≡ Some kinds.Trigger
+        → destination_at code at ≡ Some (destination_of code at)
     cases None f e = cc
     cases (Some c) f e = rw f (class_destination c cc)
 
@@ -56,14 +61,17 @@ class_no_access (trigger op ra src rc) e = refl
 class_no_access (address op ra rb disp) e = refl
 class_no_access (load extension at ra) e = absurd (⊎_elim (λ q. cc) (⊎_elim (λ q. cc) (⊎_elim (λ q. cc) (λ q. cc))) e)
 class_no_access (store at ra) e = absurd (⊎_elim (λ q. cc) (⊎_elim (λ q. cc) (⊎_elim (λ q. cc) (λ q. cc))) e)
-class_no_access (load_locked extension at ra) e = absurd (⊎_elim (λ q. cc) (⊎_elim (λ q. cc) (⊎_elim (λ q. cc) (λ q. cc))) e)
-class_no_access (store_conditional at ra) e = absurd (⊎_elim (λ q. cc) (⊎_elim (λ q. cc) (⊎_elim (λ q. cc) (λ q. cc))) e)
+class_no_access (load_locked extension at ra) e =
+    absurd (⊎_elim (λ q. cc) (⊎_elim (λ q. cc) (⊎_elim (λ q. cc) (λ q. cc))) e)
+class_no_access (store_conditional at ra) e =
+    absurd (⊎_elim (λ q. cc) (⊎_elim (λ q. cc) (⊎_elim (λ q. cc) (λ q. cc))) e)
 class_no_access (branch condition ra disp) e = refl
 class_no_access (jump ra rb) e = refl
 class_no_access (barrier call) e = refl
 class_no_access idle e = refl
 
-pub no_access : (code : List ℕ) (at : ℕ) (k : InsnKind) → kind_at code at ≡ Some k → MakesNone k → access_at code at ≡ None
+pub no_access : (code : List ℕ) (at : ℕ) (k : InsnKind) → kind_at code at ≡ Some k → MakesNone k
+    → access_at code at ≡ None
 no_access code at k e none = cases (class_at code at) refl e
   where
     cases : (o : Option Class) → class_at code at ≡ o → kind o ≡ Some k → access_at code at ≡ None

@@ -5,7 +5,8 @@ use Rattle.alpha_table.specs.declared.columns.MemAccess.{MemAccess}
 use Rattle.alpha_table.specs.Code.{Straight}
 use Rattle.alpha_table.specs.Uses.{AccessesMeet}
 use Rattle.alpha_shadow.specs.declared.broken.Condition.{Condition}
-use Rattle.alpha_shadow.specs.declared.broken.Condition.TheVariants.{ZeroDestination, SourceLost, SameDestination, WildBase, LoadThenStore, Locked, Turn, Open, Long}
+use Rattle.alpha_shadow.specs.declared.broken.Condition.TheVariants.{ZeroDestination, SourceLost, SameDestination}
+use Rattle.alpha_shadow.specs.declared.broken.Condition.TheVariants.{WildBase, LoadThenStore, Locked, Turn, Open, Long}
 use Rattle.alpha_shadow.specs.Code.{kind_at, destination_at, access_at, Sets, SetIn, ExposedIn}
 
 -- a load at a place between, and a store here, which go by different bases, or by one base and may touch a common byte
@@ -15,9 +16,9 @@ Meets code place at load store =
     × (kind_at code at ≡ Some kinds.Store) × (access_at code at ≡ Some store)
     × ((load.base ≢ store.base) ⊎ AccessesMeet load store)
 
--- What each condition says of a trigger and a place of its shadow. C2: the word there sets a register that some word from the
--- trigger up to it uses before any word between sets it. C4: its access goes by a register that was set. C5: it is a store that
--- a load between may meet.
+-- What each condition says of a trigger and a place of its shadow. C2: the word there sets a register that some word
+-- from the trigger up to it uses before any word between sets it. C4: its access goes by a register that was set. C5:
+-- it is a store that a load between may meet.
 abbrev pub Holds : List ℕ → ℕ → ℕ → Condition → Type 0
 Holds code trigger at ZeroDestination = (at ≡ trigger) × (destination_at code trigger ≡ Some 31)
 Holds code trigger at SourceLost = (r : ℕ) × Sets code at r × ExposedIn code trigger (at + 1) r
@@ -26,7 +27,8 @@ Holds code trigger at SameDestination =
 Holds code trigger at WildBase =
     (trigger < at) × ((a : MemAccess) × (access_at code at ≡ Some a) × SetIn code trigger at a.base)
 Holds code trigger at LoadThenStore =
-    (place : ℕ) × (trigger < place) × (place < at) × ((load : MemAccess) × ((store : MemAccess) × Meets code place at load store))
+    (place : ℕ) × (trigger < place) × (place < at)
+    × ((load : MemAccess) × ((store : MemAccess) × Meets code place at load store))
 Holds code trigger at Locked = kind_at code at ≡ Some kinds.Locked
 Holds code trigger at Turn = kind_at code at ≡ Some kinds.Turn
 Holds code trigger at Open = at ≡ length code

@@ -1,7 +1,8 @@
 -- The least broken place.
 use Rattle.std.specs.Prelude.{◌≡◌, ◌<◌, ◌≤◌, ℕ, ◌⊎◌, List}
 use Rattle.alpha_shadow.specs.declared.broken.Condition.{Condition}
-use Rattle.alpha_shadow.specs.declared.broken.Condition.TheVariants.{ZeroDestination, SourceLost, SameDestination, WildBase, LoadThenStore, Locked, Turn, Open, Long}
+use Rattle.alpha_shadow.specs.declared.broken.Condition.TheVariants.{ZeroDestination, SourceLost, SameDestination}
+use Rattle.alpha_shadow.specs.declared.broken.Condition.TheVariants.{WildBase, LoadThenStore, Locked, Turn, Open, Long}
 use Rattle.alpha_shadow.specs.declared.broken.Broken.{Broken}
 use Rattle.alpha_shadow.specs.Broken.{IsBroken}
 
@@ -20,9 +21,12 @@ condition_number Long = 9
 -- a broken place comes no later than another: by its place, then by its trigger, then by its condition
 abbrev pub NoLater : Broken → ℕ → ℕ → Condition → Type 0
 NoLater b trigger at condition =
-    (b.at < at) ⊎ ((b.at ≡ at) × ((b.trigger < trigger) ⊎ ((b.trigger ≡ trigger) × (condition_number b.condition ≤ condition_number condition))))
+    (b.at < at)
+    ⊎ ((b.at ≡ at)
+    × ((b.trigger < trigger) ⊎ ((b.trigger ≡ trigger) × (condition_number b.condition ≤ condition_number condition))))
 
 -- the least broken place
 pub record IsLeastBroken (code : List ℕ) (b : Broken) : Type 0 where
   pub broken : IsBroken code b.trigger b.at b.condition
-  pub least : (trigger at : ℕ) (condition : Condition) → IsBroken code trigger at condition → NoLater b trigger at condition
+  pub least : (trigger at : ℕ) (condition : Condition) → IsBroken code trigger at condition
+      → NoLater b trigger at condition

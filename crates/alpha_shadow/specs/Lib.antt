@@ -3,9 +3,9 @@ pub mod Broken
 pub mod Least
 pub mod Columns
 pub mod Reach
-pub mod Held
+pub mod OpenLists
 pub mod Window
 pub mod Place
 pub mod Fetched
-pub mod Quiet
+pub mod NoTrigger
 pub mod Words

@@ -16,10 +16,12 @@ pub record IsLeastThere (code : List ℕ) (at n : ℕ) (b : Broken) : Type 0 whe
   pub place : b.at ≡ at
   pub broken : IsBroken code b.trigger at b.condition
   pub number : condition_number b.condition ≤ n
-  pub least : (trigger : ℕ) (condition : Condition) → condition_number condition ≤ n → IsBroken code trigger at condition
+  pub least : (trigger : ℕ) (condition : Condition) → condition_number condition ≤ n
+      → IsBroken code trigger at condition
       → (b.trigger < trigger) ⊎ ((b.trigger ≡ trigger) × (condition_number b.condition ≤ condition_number condition))
 
 -- the same under the first n conditions, or none
 abbrev pub IsLeastUpTo : List ℕ → ℕ → ℕ → Option Broken → Type 0
-IsLeastUpTo code at n None = (trigger : ℕ) (condition : Condition) → condition_number condition ≤ n → IsBroken code trigger at condition → ⊥
+IsLeastUpTo code at n None =
+    (trigger : ℕ) (condition : Condition) → condition_number condition ≤ n → IsBroken code trigger at condition → ⊥
 IsLeastUpTo code at n (Some b) = IsLeastThere code at n b

@@ -1,5 +1,6 @@
 -- What is known of the words before a place, without walking back over them.
-use Rattle.std.specs.Prelude.{◌≡◌, ◌<◌, ◌≤◌, ◌+◌, ◌↔◌, ◌⊎◌, ℕ, zero, suc, Option, Some, None, List, [], ◌∷◌, ◌++◌, length, slice_index, Bool, nat_le, nat_lt, ◌&&◌}
+use Rattle.std.specs.Prelude.{◌≡◌, ◌<◌, ◌≤◌, ◌+◌, ◌↔◌, ◌⊎◌, ℕ, zero, suc, Option, Some, None, List, [], ◌∷◌, ◌++◌}
+use Rattle.std.specs.Prelude.{length, slice_index, Bool, nat_le, nat_lt, ◌&&◌}
 use Rattle.alpha_table.specs.declared.columns.InsnKind.{InsnKind}
 use Rattle.alpha_table.specs.declared.columns.InsnKind.TheVariants as kinds
 use Rattle.alpha_table.specs.declared.columns.MemAccess.{MemAccess}
@@ -15,7 +16,8 @@ use Rattle.alpha_shadow.specs.Broken.{IsBroken}
 
 -- no place before this one is broken
 abbrev pub IsUnbroken : List ℕ → ℕ → Type 0
-IsUnbroken code at = (trigger place : ℕ) (condition : Condition) → place < at → IsBroken code trigger place condition → ⊥
+IsUnbroken code at =
+    (trigger place : ℕ) (condition : Condition) → place < at → IsBroken code trigger place condition → ⊥
 
 -- a trigger before a place is open there: no barrier and no turn stands from it up to the place
 pub record IsOpen (code : List ℕ) (trigger at : ℕ) : Type 0 where
@@ -82,7 +84,8 @@ open_loads code (suc n) = next_loads (kind_at code n) (access_at code n) (open_t
 -- a place was noted for just the registers that its word did something with
 pub record Notes (Here : ℕ → Type 0) (place : ℕ) (before after : List ℕ) : Type 0 where
   pub size : length after ≡ 32
-  pub either : (r : ℕ) → (Here r × (slice_index after r ≡ place + 1)) ⊎ ((Here r → ⊥) × (slice_index after r ≡ slice_index before r))
+  pub either : (r : ℕ)
+      → (Here r × (slice_index after r ≡ place + 1)) ⊎ ((Here r → ⊥) × (slice_index after r ≡ slice_index before r))
 
 -- For each register, what was noted tells of each open trigger whether a word from it on did something with the
 -- register. Of words outside the open shadows it need not tell.
@@ -101,7 +104,8 @@ pub record Summarizes (code : List ℕ) (w : Window) (at : ℕ) : Type 0 where
 -- the first open trigger for which P holds, or none
 abbrev pub IsFirstThat : List ℕ → ℕ → (ℕ → Type 0) → Option ℕ → Type 0
 IsFirstThat code at P None = (trigger : ℕ) → IsOpen code trigger at → P trigger → ⊥
-IsFirstThat code at P (Some first) = IsOpen code first at × P first × ((trigger : ℕ) → IsOpen code trigger at → P trigger → first ≤ trigger)
+IsFirstThat code at P (Some first) =
+    IsOpen code first at × P first × ((trigger : ℕ) → IsOpen code trigger at → P trigger → first ≤ trigger)
 
 -- some load after an open trigger may touch a byte of a store
 pub record LoadTouches (code : List ℕ) (at : ℕ) (store : Reach) : Type 0 where

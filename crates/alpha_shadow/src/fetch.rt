@@ -1,7 +1,8 @@
-ghost use Rattle.std.specs.Prelude.{◌≡◌, ℕ, ◌+◌, ◌-◌, ◌^◌, ◌<◌, ◌≤◌, List, Some, min, length, slice_get, IfSome, IfNone};
+ghost use Rattle.std.specs.Prelude.{◌≡◌, ℕ, ◌+◌, ◌-◌, ◌^◌, ◌<◌, ◌≤◌, List, Some, min, length, slice_get, IfSome};
+ghost use Rattle.std.specs.Prelude.{IfNone};
 ghost use Rattle.std.specs.Option.{option_and_then};
 ghost use Rattle.alpha_table.specs.Decoded.{decoded};
-ghost use Rattle.alpha_shadow.specs.Quiet.{AreQuiet, IsNextTrigger};
+ghost use Rattle.alpha_shadow.specs.NoTrigger.{AreNoTriggers, IsNextTrigger};
 
 use crate::columns::is_trigger;
 use alpha_table::Insn;
@@ -38,7 +39,7 @@ pub trait Fetch {
     fn next_trigger(&mut self, from: u32) -> Option<NextTrigger>
         requires { from ≤ length (code self.old) }
         ensures found { IfSome result (λ next. IsNextTrigger (code self.old) from next) }
-        ensures none { IfNone result (AreQuiet (code self.old) from (length (code self.old))) }
+        ensures none { IfNone result (AreNoTriggers (code self.old) from (length (code self.old))) }
         ensures code { code self.new ≡ code self.old }
         ensures looked { IfSome result (λ next.
             fetches self.new + from ≤ fetches self.old + next.place + 1) }

@@ -1,6 +1,6 @@
 ghost use Rattle.std.specs.Prelude.{◌≡◌, ◌+◌, ◌-◌, ◌<◌, ◌≤◌, ◌^◌, min, length, drop, Some, slice_get};
 
-use crate::quiet::first_trigger;
+use crate::first_trigger::first_trigger;
 use crate::{Fetch, NextTrigger};
 use alpha_table::Insn;
 use std::marker::Model;

@@ -13,28 +13,30 @@
 //!
 //! `specs/Code.antt` reads the columns of the code by place, `specs/Broken.antt` says when a place is broken and which
 //! code is accepted, `specs/Least.antt` which broken place is the least. The body is `verdict.rt` (the walk over the
-//! words, which `quiet.rt` brings to the next trigger where no shadow is open) over `place.rt` (the least broken place
+//! words, which `first_trigger.rt` brings to the next trigger where no shadow is open) over `place.rt` (the least
+//! broken place
 //! at one word, condition by condition), `window.rt` (what is known of the words before a place, whose meaning is
 //! `specs/Window.antt`), `triggers.rt` and `loads.rt` (the open triggers, and the loads after the first of them),
 //! `last.rt` (the last place of each register) and `columns.rt` (what is read of one word). `broken.rt` has what a
-//! verdict names, `fetch.rt` and `insn_code.rt` where the words come from, and `words.rt` the verdict on a slice of them.
+//! verdict names, `fetch.rt` and `insn_code.rt` where the words come from, and `words.rt` the verdict on a slice of
+//! them.
 //!
 //! `proofs/Shadows.antt`, `OpenLoads.antt` and `Ends.antt` follow the open triggers, the open loads and the registers'
-//! places word by word; `Places.antt` ties each condition to them, `Steps.antt` joins the conditions, `Passing.antt`
-//! and `Judging.antt` make the walk, and `Decided.antt` has the laws. `Stretches.antt` goes over the words where no
-//! shadow is open, and `Alone.antt` has a trigger there. `Covers.antt` has what a cover of loads covers. `Tables.antt`
-//! alone looks into the instruction table, and `Barriers.antt` has what a barrier leaves.
+//! places word by word; `Places.antt` ties each condition to them, `Steps.antt` joins the conditions,
+//! `WindowSteps.antt` and `CodeWalk.antt` make the walk, and `Decided.antt` has the laws. `Stretches.antt` goes over
+//! the words where no shadow is open, and `Alone.antt` has a trigger there. `Covers.antt` has what a cover of loads
+//! covers. `Tables.antt` alone looks into the instruction table, and `Barriers.antt` has what a barrier leaves.
 #![tactic(auto)]
 
 mod broken;
 mod columns;
 mod fetch;
+mod first_trigger;
 mod insn_code;
 mod last;
 mod laws;
 mod loads;
 mod place;
-mod quiet;
 mod triggers;
 mod verdict;
 mod window;

@@ -1,7 +1,7 @@
 ghost use Rattle.std.specs.Prelude.{◌≡◌, ◌<◌, ◌↔◌, ◌++◌, ◌∷◌, [], IsTrue, IfSome, length};
 ghost use Rattle.std.specs.List.{Any};
 ghost use Rattle.alpha_table.specs.Spans.{SpansMeet};
-ghost use Rattle.alpha_shadow.specs.Held.{IsAround, IsCover};
+ghost use Rattle.alpha_shadow.specs.OpenLists.{IsAround, IsCover};
 ghost use Rattle.alpha_shadow.specs.Reach.{reach_of, MayTouch};
 
 use crate::triggers::MOST;
@@ -63,7 +63,7 @@ pub(crate) struct Loads {
 impl Model for Loads {
     ghost use Rattle.std.specs.Prelude.{◌≡◌, ◌≤◌, length, take};
     ghost use Rattle.alpha_shadow.specs.declared.triggers.TheConstants.{MOST};
-    ghost use Rattle.alpha_shadow.specs.Held.{OpenLoads, IsCover};
+    ghost use Rattle.alpha_shadow.specs.OpenLists.{OpenLoads, IsCover};
 
     ghost Value = { OpenLoads };
 

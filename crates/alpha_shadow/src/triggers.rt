@@ -24,7 +24,7 @@ pub(crate) struct Triggers {
 impl Model for Triggers {
     ghost use Rattle.std.specs.Prelude.{◌≡◌, ◌≤◌, length, take};
     ghost use Rattle.alpha_shadow.specs.declared.triggers.TheConstants.{MOST};
-    ghost use Rattle.alpha_shadow.specs.Held.{OpenTriggers};
+    ghost use Rattle.alpha_shadow.specs.OpenLists.{OpenTriggers};
 
     ghost Value = { OpenTriggers };
 

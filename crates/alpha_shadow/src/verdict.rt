@@ -4,7 +4,7 @@ ghost use Rattle.alpha_table.specs.Columns.{kind_of};
 ghost use Rattle.alpha_shadow.specs.Broken.{IsAccepted};
 ghost use Rattle.alpha_shadow.specs.Least.{IsLeastBroken};
 ghost use Rattle.alpha_shadow.specs.Place.{IsLeastUpTo};
-ghost use Rattle.alpha_shadow.specs.Quiet.{IsInsnAt};
+ghost use Rattle.alpha_shadow.specs.NoTrigger.{IsInsnAt};
 ghost use Rattle.alpha_shadow.specs.Window.{Summarizes, IsUnbroken};
 
 use crate::columns::Columns;
@@ -54,8 +54,8 @@ impl Checker {
     }
 }
 
-// The verdict, by a window that knows what is known before the first word. All callers share it, so that it is the one place
-// that what a word takes is a part of.
+// The verdict, by a window that knows what is known before the first word. All callers share it, so that it is the one
+// place that what a word takes is a part of.
 #[inline(never)]
 fn judge_by<F: Fetch>(window: &mut Window, code: &mut F) -> Result<(), Broken>
     requires { Summarizes (F.code code.old) window.old 0 }

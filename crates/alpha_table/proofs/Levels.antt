@@ -19,7 +19,8 @@ use Rattle.alpha_table.specs.Columns.{level_of}
 use Rattle.alpha_table.specs.Decoded.{decoded}
 use Rattle.alpha_table.proofs.Classes.{class_in-decoded}
 
-level_load : (b : Bool) (extension : Extension) (at : MemAccess) (ra : ℕ) → level_in (cond b idle (load extension at ra)) ≡ One
+level_load : (b : Bool) (extension : Extension) (at : MemAccess) (ra : ℕ)
+    → level_in (cond b idle (load extension at ra)) ≡ One
 level_load true extension at ra = refl
 level_load false extension at ra = refl
 
@@ -39,15 +40,22 @@ level_in-class_of (Pal call) = refl
 level_in-class_of (Operate ops.Ctpop ra src rc) = refl
 level_in-class_of (Operate _ ra src rc) = refl
 
-IsLow : Level → Level → Type 0
-IsLow level own = level_number own ≤ level_number level
+IsLowLevel : Level → Level → Type 0
+IsLowLevel level own = level_number own ≤ level_number level
 
-at_level : (level : Level) (o : Option Form) → IsSomeAnd (option_map class_of o) (λ c. level_number (level_in c) ≤ level_number level) ↔ IsSomeAnd o (λ i. level_number (level_of i) ≤ level_number level)
-unfolding IsLow
+at_level : (level : Level) (o : Option Form)
+    → IsSomeAnd (option_map class_of o) (λ c. level_number (level_in c) ≤ level_number level)
+    ↔ IsSomeAnd o (λ i. level_number (level_of i) ≤ level_number level)
+unfolding IsLowLevel
 at_level level None = (λ h. h, λ h. h)
-at_level level (Some i) = (subst (IsLow level) (level_in-class_of i), subst (IsLow level) (sym (level_in-class_of i)))
+at_level level (Some i) =
+    (subst (IsLowLevel level) (level_in-class_of i), subst (IsLowLevel level) (sym (level_in-class_of i)))
 
 -- a word is there at a level by its class as by its instruction
-pub level_in-decoded : (level : Level) (w : ℕ) → IsSomeAnd (class_in w) (λ c. level_number (level_in c) ≤ level_number level) ↔ IsSomeAnd (decoded w) (λ i. level_number (level_of i) ≤ level_number level)
+pub level_in-decoded : (level : Level) (w : ℕ)
+    → IsSomeAnd (class_in w) (λ c. level_number (level_in c) ≤ level_number level)
+    ↔ IsSomeAnd (decoded w) (λ i. level_number (level_of i) ≤ level_number level)
 level_in-decoded level w =
-    subst (λ o. IsSomeAnd o (λ c. level_number (level_in c) ≤ level_number level) ↔ IsSomeAnd (decoded w) (λ i. level_number (level_of i) ≤ level_number level)) (sym (class_in-decoded w)) (at_level level (decoded w))
+    subst (λ o. IsSomeAnd o (λ c. level_number (level_in c) ≤ level_number level)
+    ↔ IsSomeAnd (decoded w) (λ i. level_number (level_of i) ≤ level_number level))
+    (sym (class_in-decoded w)) (at_level level (decoded w))

@@ -1,7 +1,7 @@
 pub mod Lookups
-pub mod Decoding
+pub mod DecodedInsns
 pub mod Words
-pub mod Naming
+pub mod NameSearches
 pub mod Forms
 pub mod Tables
 pub mod Classes

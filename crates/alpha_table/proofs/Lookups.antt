@@ -1,5 +1,6 @@
 -- Each row is found by its numbers and by its name, and nothing by the numbers of another format.
-use Rattle.std.proofs.Common.{◌≡◌, ℕ, ◌<◌, ◌≤◌, ◌^◌, nat_lt, Bool, true, false, ◌==◌, ◌||◌, ◌&&◌, eqb, Option, Some, None, List, ◌++◌, find, refl, subst, sym, arith}
+use Rattle.std.proofs.Common.{◌≡◌, ℕ, ◌<◌, ◌≤◌, ◌^◌, nat_lt, Bool, true, false, ◌==◌, ◌||◌, ◌&&◌, eqb, Option, Some}
+use Rattle.std.proofs.Common.{None, List, ◌++◌, find, refl, subst, sym, arith}
 use Rattle.std.specs.Str.{bytes_eq}
 use Rattle.std.proofs.lemmas.Bool.{eqb-true, ltb-true, and_parts}
 use Rattle.alpha_words.specs.declared.PalCall.{PalCall}
@@ -30,49 +31,70 @@ is_memory o = (nat_lt 0x07 o && nat_lt o 0x10) || (nat_lt 0x27 o && nat_lt o 0x3
 
 -- the row with a name, by a look at each
 abbrev pub with_name : List ℕ → Option Mnemonic
-with_name name = find (λ m. bytes_eq (name_of m) name) (OPERATES ++ (MEMORIES ++ (BRANCHES ++ (JUMPS ++ (MISCS ++ (FETCHES ++ PAL_CALLS))))))
+with_name name =
+    find (λ m. bytes_eq (name_of m) name)
+    (OPERATES ++ (MEMORIES ++ (BRANCHES ++ (JUMPS ++ (MISCS ++ (FETCHES ++ PAL_CALLS))))))
 
 -- One line a row: it is found by its numbers, they are within their fields, and it is found by its name.
 
-pub operate_known : (row : Op) → (operate_at (op_row row).opcode (op_row row).function ≡ Some row) × ((is_operate (op_row row).opcode && nat_lt (op_row row).function 128) ≡ true) × (with_name (name_of (Operate row)) ≡ Some (Operate row))
+pub operate_known : (row : Op)
+    → (operate_at (op_row row).opcode (op_row row).function ≡ Some row)
+    × ((is_operate (op_row row).opcode && nat_lt (op_row row).function 128) ≡ true)
+    × (with_name (name_of (Operate row)) ≡ Some (Operate row))
 operate_known ops.Addl = (refl, refl, refl)
 operate_known row = (refl, refl, refl)
 
-pub memory_known : (row : MemOp) → (memory_at (mem_row row).opcode ≡ Some row) × (is_memory (mem_row row).opcode ≡ true) × (with_name (name_of (Mem row)) ≡ Some (Mem row))
+pub memory_known : (row : MemOp)
+    → (memory_at (mem_row row).opcode ≡ Some row) × (is_memory (mem_row row).opcode ≡ true)
+    × (with_name (name_of (Mem row)) ≡ Some (Mem row))
 memory_known memories.Lda = (refl, refl, refl)
 memory_known row = (refl, refl, refl)
 
-pub branch_known : (row : BranchOp) → (branch_at (branch_row row).opcode ≡ Some row) × ((nat_lt 0x2f (branch_row row).opcode && nat_lt (branch_row row).opcode 0x40) ≡ true) × (with_name (name_of (Branch row)) ≡ Some (Branch row))
+pub branch_known : (row : BranchOp)
+    → (branch_at (branch_row row).opcode ≡ Some row)
+    × ((nat_lt 0x2f (branch_row row).opcode && nat_lt (branch_row row).opcode 0x40) ≡ true)
+    × (with_name (name_of (Branch row)) ≡ Some (Branch row))
 branch_known branches.Br = (refl, refl, refl)
 branch_known row = (refl, refl, refl)
 
-pub jump_known : (row : JumpKind) → (jump_at (jump_kind row) ≡ Some row) × (nat_lt (jump_kind row) 4 ≡ true) × (with_name (name_of (Jump row)) ≡ Some (Jump row))
+pub jump_known : (row : JumpKind)
+    → (jump_at (jump_kind row) ≡ Some row) × (nat_lt (jump_kind row) 4 ≡ true)
+    × (with_name (name_of (Jump row)) ≡ Some (Jump row))
 jump_known jumps.Jmp = (refl, refl, refl)
 jump_known jumps.Jsr = (refl, refl, refl)
 jump_known jumps.Ret = (refl, refl, refl)
 jump_known jumps.JsrCoroutine = (refl, refl, refl)
 
-pub misc_known : (row : MiscOp) → (misc_at (misc_row row).function ≡ Some row) × (nat_lt (misc_row row).function 0x10000 ≡ true) × (with_name (name_of (Misc row)) ≡ Some (Misc row))
+pub misc_known : (row : MiscOp)
+    → (misc_at (misc_row row).function ≡ Some row) × (nat_lt (misc_row row).function 0x10000 ≡ true)
+    × (with_name (name_of (Misc row)) ≡ Some (Misc row))
 misc_known miscs.Trapb = (refl, refl, refl)
 misc_known miscs.Excb = (refl, refl, refl)
 misc_known miscs.Mb = (refl, refl, refl)
 misc_known miscs.Wmb = (refl, refl, refl)
 
-pub fetch_known : (row : Bool) → (fetch_at (fetch_function row) ≡ Some row) × (nat_lt (fetch_function row) 0x10000 ≡ true) × (with_name (name_of (Fetch row)) ≡ Some (Fetch row))
+pub fetch_known : (row : Bool)
+    → (fetch_at (fetch_function row) ≡ Some row) × (nat_lt (fetch_function row) 0x10000 ≡ true)
+    × (with_name (name_of (Fetch row)) ≡ Some (Fetch row))
 fetch_known false = (refl, refl, refl)
 fetch_known true = (refl, refl, refl)
 
-pub pal_known : (row : PalCall) → (pal_at (pal_function row) ≡ Some row) × (nat_lt (pal_function row) 0x4000000 ≡ true) × (with_name (name_of (Pal row)) ≡ Some (Pal row))
+pub pal_known : (row : PalCall)
+    → (pal_at (pal_function row) ≡ Some row) × (nat_lt (pal_function row) 0x4000000 ≡ true)
+    × (with_name (name_of (Pal row)) ≡ Some (Pal row))
 pal_known calls.Bpt = (refl, refl, refl)
 pal_known row = (refl, refl, refl)
 
 -- the numbers are within their fields
 
 pub is_operate-row : (row : Op) → is_operate (op_row row).opcode ≡ true
-is_operate-row row = (and_parts (is_operate (op_row row).opcode) (nat_lt (op_row row).function 128) (operate_known row).1).0
+is_operate-row row =
+    (and_parts (is_operate (op_row row).opcode) (nat_lt (op_row row).function 128) (operate_known row).1).0
 
 pub function-operate : (row : Op) → (op_row row).function < 128
-function-operate row = ltb-true (op_row row).function 128 (and_parts (is_operate (op_row row).opcode) (nat_lt (op_row row).function 128) (operate_known row).1).1
+function-operate row =
+    ltb-true (op_row row).function 128
+    (and_parts (is_operate (op_row row).opcode) (nat_lt (op_row row).function 128) (operate_known row).1).1
 
 pub kind-jump : (row : JumpKind) → jump_kind row < 4
 kind-jump row = ltb-true (jump_kind row) 4 (jump_known row).1
@@ -99,7 +121,9 @@ IsBranchOpcode o = (0x30 ≤ o) × (o ≤ 0x3f)
 
 -- what holds of the five opcodes holds of each operate instruction's
 by_opcode : (P : ℕ → Type 0) (o : ℕ) → P 0x10 → P 0x11 → P 0x12 → P 0x13 → P 0x1c → is_operate o ≡ true → P o
-by_opcode P o a b c d e = first (o == 0x10) refl (first (o == 0x11) refl (first (o == 0x12) refl (first (o == 0x13) refl (λ h. same 0x1c h e) d) c) b) a
+by_opcode P o a b c d e =
+    first (o == 0x10) refl
+    (first (o == 0x11) refl (first (o == 0x12) refl (first (o == 0x13) refl (λ h. same 0x1c h e) d) c) b) a
   where
     same : (n : ℕ) → (o == n) ≡ true → P n → P o
     same n h p = subst P (sym (eqb-true o n h)) p
@@ -109,20 +133,26 @@ by_opcode P o a b c d e = first (o == 0x10) refl (first (o == 0x11) refl (first 
     first false e other p h = other h
 
 pub memory_at-operate : (row : Op) → memory_at (op_row row).opcode ≡ None
-memory_at-operate row = by_opcode (λ o. memory_at o ≡ None) (op_row row).opcode refl refl refl refl refl (is_operate-row row)
+memory_at-operate row =
+    by_opcode (λ o. memory_at o ≡ None) (op_row row).opcode refl refl refl refl refl (is_operate-row row)
 
 pub branch_at-operate : (row : Op) → branch_at (op_row row).opcode ≡ None
-branch_at-operate row = by_opcode (λ o. branch_at o ≡ None) (op_row row).opcode refl refl refl refl refl (is_operate-row row)
+branch_at-operate row =
+    by_opcode (λ o. branch_at o ≡ None) (op_row row).opcode refl refl refl refl refl (is_operate-row row)
 
 pub jump-operate : (row : Op) → eqb (op_row row).opcode 0x1a ≡ false
 jump-operate row = by_opcode (λ o. eqb o 0x1a ≡ false) (op_row row).opcode refl refl refl refl refl (is_operate-row row)
 
 pub opcode-operate : (row : Op) → IsOperateOpcode (op_row row).opcode
 opcode-operate row =
-    by_opcode IsOperateOpcode (op_row row).opcode (omega arith, omega arith, λ h. omega arith) (omega arith, omega arith, λ h. omega arith) (omega arith, omega arith, λ h. omega arith) (omega arith, omega arith, λ h. omega arith) (omega arith, omega arith, λ h. omega arith) (is_operate-row row)
+    by_opcode IsOperateOpcode (op_row row).opcode (omega arith, omega arith, λ h. omega arith)
+    (omega arith, omega arith, λ h. omega arith) (omega arith, omega arith, λ h. omega arith)
+    (omega arith, omega arith, λ h. omega arith) (omega arith, omega arith, λ h. omega arith) (is_operate-row row)
 
 within : (low high o : ℕ) → (nat_lt low o && nat_lt o high) ≡ true → (low < o) × (o < high)
-within low high o h = let parts = and_parts (nat_lt low o) (nat_lt o high) h in (ltb-true low o parts.0, ltb-true o high parts.1)
+within low high o h =
+    let parts = and_parts (nat_lt low o) (nat_lt o high) h in
+    (ltb-true low o parts.0, ltb-true o high parts.1)
 
 pub opcode-memory : (row : MemOp) → IsMemoryOpcode (mem_row row).opcode
 opcode-memory row = either (nat_lt 0x07 o && nat_lt o 0x10) refl (memory_known row).1
@@ -130,12 +160,15 @@ opcode-memory row = either (nat_lt 0x07 o && nat_lt o 0x10) refl (memory_known r
     o : ℕ
     o = (mem_row row).opcode
 
-    either : (t : Bool) → (nat_lt 0x07 o && nat_lt o 0x10) ≡ t → (t || (nat_lt 0x27 o && nat_lt o 0x30)) ≡ true → IsMemoryOpcode o
+    either : (t : Bool) → (nat_lt 0x07 o && nat_lt o 0x10) ≡ t → (t || (nat_lt 0x27 o && nat_lt o 0x30)) ≡ true
+        → IsMemoryOpcode o
     either true e h = let lies = within 0x07 0x10 o e in (omega arith, omega arith, λ above. omega arith)
     either false e h = let lies = within 0x27 0x30 o h in (omega arith, omega arith, λ above. omega arith)
 
 pub opcode-branch : (row : BranchOp) → IsBranchOpcode (branch_row row).opcode
-opcode-branch row = let lies = within 0x2f 0x40 (branch_row row).opcode (branch_known row).1 in (omega arith, omega arith)
+opcode-branch row =
+    let lies = within 0x2f 0x40 (branch_row row).opcode (branch_known row).1 in
+    (omega arith, omega arith)
 
 pub memory_at-branch : (row : BranchOp) → memory_at (branch_row row).opcode ≡ None
 memory_at-branch branches.Br = refl

@@ -1,5 +1,6 @@
 -- Each instruction has a word of its own.
-use Rattle.std.proofs.Common.{◌≡◌, ℕ, ℤ, pos, negsuc, ◌+◌, ◌-◌, ◌*◌, ◌^◌, ◌<◌, ◌≤◌, ◌+ℤ◌, ◌-ℤ◌, ◌≤ℤ◌, ◌<ℤ◌, ltb, cond, refl, arith}
+use Rattle.std.proofs.Common.{◌≡◌, ℕ, ℤ, pos, negsuc, ◌+◌, ◌-◌, ◌*◌, ◌^◌, ◌<◌, ◌≤◌, ◌+ℤ◌, ◌-ℤ◌, ◌≤ℤ◌, ◌<ℤ◌, ltb, cond}
+use Rattle.std.proofs.Common.{refl, arith}
 use Rattle.std.proofs.lemmas.Bool.{lt-ltb, le-ltb}
 use Rattle.std.proofs.lemmas.Int.{ints}
 use Rattle.alpha_words.specs.Field.{field}
@@ -9,10 +10,12 @@ use Rattle.alpha_table.specs.declared.form.Form.TheVariants.{Mem, Branch, Jump, 
 use Rattle.alpha_table.specs.Rows.{mem_row, branch_row}
 use Rattle.alpha_table.specs.Row.{Row, IsInsn}
 use Rattle.alpha_table.specs.Encoded.{digits, source, encoded}
-use Rattle.alpha_table.proofs.Lookups.{opcode-operate, opcode-memory, opcode-branch, function-operate, kind-jump, function-misc, function-fetch, function-pal}
+use Rattle.alpha_table.proofs.Lookups.{opcode-operate, opcode-memory, opcode-branch, function-operate, kind-jump}
+use Rattle.alpha_table.proofs.Lookups.{function-misc, function-fetch, function-pal}
 
 digits-signed : (half full : ℕ) (d : ℤ) → half + half ≡ full → pos 0 ≤ℤ (d +ℤ pos half) → d <ℤ pos half
-    → (digits full d < full) × (cond (ltb (digits full d) half) (pos (digits full d)) (pos (digits full d) -ℤ pos full) ≡ d)
+    → (digits full d < full)
+    × (cond (ltb (digits full d) half) (pos (digits full d)) (pos (digits full d) -ℤ pos full) ≡ d)
 unfolding digits
 digits-signed half full (pos n) twice low high =
     let below : n < half = omega (arith, ints) in
@@ -22,7 +25,8 @@ digits-signed half full (negsuc n) twice low high =
     let above : half ≤ full - 1 - n = omega arith in
     (omega arith, rw (le-ltb (full - 1 - n) half above) (omega (arith, ints)))
 
-some_memory : (opcode ra rb f w : ℕ) → opcode < 64 → ra < 32 → rb < 32 → f < 2 ^ 16 → w ≡ opcode * 2 ^ 26 + ra * 2 ^ 21 + rb * 2 ^ 16 + f
+some_memory : (opcode ra rb f w : ℕ) → opcode < 64 → ra < 32 → rb < 32 → f < 2 ^ 16
+    → w ≡ opcode * 2 ^ 26 + ra * 2 ^ 21 + rb * 2 ^ 16 + f
     → (w < 2 ^ 32) × (field 31 26 w ≡ opcode) × (field 25 21 w ≡ ra) × (field 20 16 w ≡ rb) × (field 15 0 w ≡ f)
 some_memory opcode ra rb f w a b c d e = (omega arith, omega arith, omega arith, omega arith, omega arith)
 
@@ -36,12 +40,14 @@ unfolding encoded source
 encoded-Row (Mem op ra rb disp) h =
     let d = digits-signed (2 ^ 15) (2 ^ 16) disp refl h.2.0 h.2.1 in
     let o = opcode-memory op in
-    let s = some_memory (mem_row op).opcode ra rb (digits (2 ^ 16) disp) (encoded (Mem op ra rb disp)) (omega arith) h.0 h.1 d.0 refl in
+    let s = some_memory (mem_row op).opcode ra rb (digits (2 ^ 16) disp) (encoded (Mem op ra rb disp))
+    (omega arith) h.0 h.1 d.0 refl in
     (s.0, (s.1, s.2, s.3, rw s.4 d.1))
 encoded-Row (Branch op ra disp) h =
     let d = digits-signed (2 ^ 20) (2 ^ 21) disp refl h.1.0 h.1.1 in
     let o = opcode-branch op in
-    let s = some_branch (branch_row op).opcode ra (digits (2 ^ 21) disp) (encoded (Branch op ra disp)) (omega arith) h.0 d.0 refl in
+    let s = some_branch (branch_row op).opcode ra (digits (2 ^ 21) disp) (encoded (Branch op ra disp))
+    (omega arith) h.0 d.0 refl in
     (s.0, (s.1, s.2, rw s.3 d.1))
 encoded-Row (Jump kind ra rb hint) h =
     let k = kind-jump kind in

@@ -12,7 +12,8 @@ use Rattle.alpha_table.specs.declared.form.Form.{Form}
 use Rattle.alpha_table.specs.declared.form.Form.TheVariants.{Mem, Branch, Jump, Operate, Misc, Fetch, Pal}
 use Rattle.alpha_table.specs.Op.{op_row}
 use Rattle.alpha_table.specs.Rows.{mem_row, branch_row, misc_row}
-use Rattle.alpha_table.specs.Class.{Class, operate, trigger, address, load, store, load_locked, store_conditional, branch, jump, barrier, idle}
+use Rattle.alpha_table.specs.Class.{Class, operate, trigger, address, load, store, load_locked, store_conditional}
+use Rattle.alpha_table.specs.Class.{branch, jump, barrier, idle}
 
 abbrev pub operate_class : OpRole → Op → ℕ → Src → ℕ → Class
 operate_class Plain op ra src rc = operate op ra src rc
@@ -29,7 +30,8 @@ memory_class StoreConditional op at ra = store_conditional at ra
 
 abbrev pub class_of : Form → Class
 class_of (Mem op ra rb disp) =
-    memory_class (mem_row op).role op (record { base = rb; disp = disp; bytes = (mem_row op).bytes; clears = (mem_row op).clears }) ra
+    memory_class (mem_row op).role op
+    (record { base = rb; disp = disp; bytes = (mem_row op).bytes; clears = (mem_row op).clears }) ra
 class_of (Branch op ra disp) = branch (branch_row op).condition ra disp
 class_of (Jump kind ra rb hint) = jump ra rb
 class_of (Operate op ra src rc) = operate_class (op_row op).role op ra src rc

@@ -37,4 +37,5 @@ trap_rc c = option_and_then trigger_destination c
 -- no barrier and no turn stands in [from, to)
 abbrev pub Straight : List ℕ → ℕ → ℕ → Type 0
 Straight code from to =
-    (k : ℕ) → from ≤ k → k < to → (kind (class_at code k) ≢ Some kinds.Barrier) × (kind (class_at code k) ≢ Some kinds.Turn)
+    (k : ℕ) → from ≤ k → k < to
+    → (kind (class_at code k) ≢ Some kinds.Barrier) × (kind (class_at code k) ≢ Some kinds.Turn)

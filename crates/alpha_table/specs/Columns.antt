@@ -1,4 +1,5 @@
--- The columns of the instruction table by instruction: those of its class, the operation that traps, and the least level.
+-- The columns of the instruction table by instruction: those of its class, the operation that traps, and the least
+-- level.
 use Rattle.std.specs.Prelude.{ℕ, Bool, Option, Some, None}
 use Rattle.std.specs.Option.{option_map}
 use Rattle.alpha_words.specs.declared.Level.{Level}

@@ -22,7 +22,8 @@ unfoldable pub encoded : Form → ℕ
 encoded (Mem op ra rb disp) = (mem_row op).opcode * 2 ^ 26 + ra * 2 ^ 21 + rb * 2 ^ 16 + digits (2 ^ 16) disp
 encoded (Branch op ra disp) = (branch_row op).opcode * 2 ^ 26 + ra * 2 ^ 21 + digits (2 ^ 21) disp
 encoded (Jump kind ra rb hint) = 0x1a * 2 ^ 26 + ra * 2 ^ 21 + rb * 2 ^ 16 + jump_kind kind * 2 ^ 14 + hint
-encoded (Operate op ra src rc) = (op_row op).opcode * 2 ^ 26 + ra * 2 ^ 21 + source src + (op_row op).function * 2 ^ 5 + rc
+encoded (Operate op ra src rc) =
+    (op_row op).opcode * 2 ^ 26 + ra * 2 ^ 21 + source src + (op_row op).function * 2 ^ 5 + rc
 encoded (Misc op) = 0x18 * 2 ^ 26 + 31 * 2 ^ 21 + 31 * 2 ^ 16 + (misc_row op).function
 encoded (Fetch modify rb) = 0x18 * 2 ^ 26 + 31 * 2 ^ 21 + rb * 2 ^ 16 + fetch_function modify
 encoded (Pal call) = pal_function call

@@ -1,5 +1,6 @@
 -- An instruction as its row and its word.
-use Rattle.std.specs.Prelude.{◌≡◌, ℕ, pos, length, Bool, true, false, List, [], ◌∷◌, ◌+◌, ◌==◌, ◌&&◌, ◌||◌, if◌then◌else◌, is_none, not}
+use Rattle.std.specs.Prelude.{◌≡◌, ℕ, pos, length, Bool, true, false, List, [], ◌∷◌, ◌+◌, ◌==◌, ◌&&◌, ◌||◌}
+use Rattle.std.specs.Prelude.{if◌then◌else◌, is_none, not}
 use Rattle.std.specs.Option.{unwrap_or}
 use Rattle.alpha_words.specs.Field.{field, signed_field}
 use Rattle.alpha_table.specs.declared.op.Op.{Op}
@@ -49,8 +50,8 @@ form_row (Fetch modify rb) = rows.Fetch modify
 form_row (Pal call) = rows.Pal call
 
 -- the word stands for the instruction that it has by the row
-abbrev pub Stands : InsnRow → ℕ → Type 0
-Stands row word = (form_row (form_in row word) ≡ row) × Row word (form_in row word)
+abbrev pub Decodes : InsnRow → ℕ → Type 0
+Decodes row word = (form_row (form_in row word) ≡ row) × Row word (form_in row word)
 
 abbrev pub form_of : Inside → Form
 form_of i = form_in i.row i.word.0
@@ -81,16 +82,16 @@ takes_any UnaryRegister = false
 takes_any Version = false
 
 -- the row is that of words with this opcode and function
-abbrev pub suits : ℕ → ℕ → InsnRow → Bool
-suits opcode function (rows.Mem op) = (mem_row op).opcode == opcode
-suits opcode function (rows.Branch op) = (branch_row op).opcode == opcode
-suits opcode function rows.Jump = opcode == 0x1a
-suits opcode function (rows.Operate op) = is_at opcode function op && takes_any (op_row op).operands
-suits opcode function (rows.Ruled op) = is_at opcode function op
-suits opcode function (rows.Misc op) = false
-suits opcode function (rows.Fetch modify) = false
-suits opcode function (rows.Pal call) = false
-suits opcode function rows.Other =
+abbrev pub matches_row : ℕ → ℕ → InsnRow → Bool
+matches_row opcode function (rows.Mem op) = (mem_row op).opcode == opcode
+matches_row opcode function (rows.Branch op) = (branch_row op).opcode == opcode
+matches_row opcode function rows.Jump = opcode == 0x1a
+matches_row opcode function (rows.Operate op) = is_at opcode function op && takes_any (op_row op).operands
+matches_row opcode function (rows.Ruled op) = is_at opcode function op
+matches_row opcode function (rows.Misc op) = false
+matches_row opcode function (rows.Fetch modify) = false
+matches_row opcode function (rows.Pal call) = false
+matches_row opcode function rows.Other =
     is_none (memory_at opcode) && (is_none (branch_at opcode) &&
     (not (opcode == 0x1a) && is_free (is_operate opcode) opcode function))
 
@@ -98,7 +99,7 @@ suits opcode function rows.Other =
 abbrev pub all_suit : ℕ → ℕ → List InsnRow → Bool
 all_suit opcode function [] = true
 all_suit opcode function (row ∷ rows) =
-    suits opcode function row && all_suit opcode (function + 1) rows
+    matches_row opcode function row && all_suit opcode (function + 1) rows
 
 -- the rows of all opcodes, from an opcode on, each with those of its 128 functions
 abbrev pub tables_suit : ℕ → List (List InsnRow) → Bool

@@ -48,7 +48,8 @@ SourceField word (Lit n) = (field 20 13 word ≡ n) × (field 12 12 word ≡ 1)
 -- the word stands for the instruction: one case for each format
 abbrev pub Row : ℕ → Form → Type 0
 Row word (Mem op ra rb disp) =
-    (field 31 26 word ≡ (mem_row op).opcode) × (field 25 21 word ≡ ra) × (field 20 16 word ≡ rb) × (signed_field 15 0 word ≡ disp)
+    (field 31 26 word ≡ (mem_row op).opcode) × (field 25 21 word ≡ ra) × (field 20 16 word ≡ rb)
+    × (signed_field 15 0 word ≡ disp)
 Row word (Branch op ra disp) =
     (field 31 26 word ≡ (branch_row op).opcode) × (field 25 21 word ≡ ra) × (signed_field 20 0 word ≡ disp)
 Row word (Jump kind ra rb hint) =
@@ -58,7 +59,9 @@ Row word (Operate op ra src rc) =
     (field 31 26 word ≡ (op_row op).opcode) × (field 11 5 word ≡ (op_row op).function) × (field 25 21 word ≡ ra) ×
     SourceField word src × (field 4 0 word ≡ rc) × OperandsFit (op_row op).operands ra src
 Row word (Misc op) =
-    (field 31 26 word ≡ 0x18) × (field 25 21 word ≡ 31) × (field 20 16 word ≡ 31) × (field 15 0 word ≡ (misc_row op).function)
+    (field 31 26 word ≡ 0x18) × (field 25 21 word ≡ 31) × (field 20 16 word ≡ 31)
+    × (field 15 0 word ≡ (misc_row op).function)
 Row word (Fetch modify rb) =
-    (field 31 26 word ≡ 0x18) × (field 25 21 word ≡ 31) × (field 20 16 word ≡ rb) × (field 15 0 word ≡ fetch_function modify)
+    (field 31 26 word ≡ 0x18) × (field 25 21 word ≡ 31) × (field 20 16 word ≡ rb)
+    × (field 15 0 word ≡ fetch_function modify)
 Row word (Pal call) = (field 31 26 word ≡ 0) × (field 25 0 word ≡ pal_function call)

@@ -22,7 +22,8 @@ use Rattle.alpha_table.specs.declared.rows.MiscRow.{MiscRow}
 use Rattle.alpha_table.specs.Entry.{Entry, entry}
 
 abbrev pub memory : String → ℕ → MemRole → ℕ → Bool → Entry MemRow
-memory name opcode role bytes clears = entry name (record { opcode = opcode; role = role; bytes = bytes; clears = clears })
+memory name opcode role bytes clears =
+    entry name (record { opcode = opcode; role = role; bytes = bytes; clears = clears })
 
 -- The memory instructions: the name, the opcode, what it does with its address, to how many bytes, and whether the
 -- three low bits of the address are cleared.

@@ -1,13 +1,16 @@
 -- The registers that a word reads and writes by its class, and its access to memory. Register 31 is never counted.
-use Rattle.std.specs.Prelude.{ℕ, ℤ, pos, ◌+ℤ◌, ◌-ℤ◌, ◌<ℤ◌, Bool, true, false, Option, Some, None, List, [], ◌∷◌, ◌==◌, ◌&&◌, nat_lt, if◌then◌else◌}
+use Rattle.std.specs.Prelude.{ℕ, ℤ, pos, ◌+ℤ◌, ◌-ℤ◌, ◌<ℤ◌, Bool, true, false, Option, Some, None, List, [], ◌∷◌, ◌==◌}
+use Rattle.std.specs.Prelude.{◌&&◌, nat_lt, if◌then◌else◌}
 use Rattle.std.specs.List.{list_any}
 use Rattle.std.specs.Option.{option_and_then, option_map_or}
 use Rattle.alpha_table.specs.declared.op.Op.{Op}
-use Rattle.alpha_table.specs.declared.op.Op.TheVariants.{Cmovlbs, Cmovlbc, Cmoveq, Cmovne, Cmovlt, Cmovle, Cmovge, Cmovgt}
+use Rattle.alpha_table.specs.declared.op.Op.TheVariants.{Cmovlbs, Cmovlbc, Cmoveq, Cmovne, Cmovlt, Cmovle, Cmovge}
+use Rattle.alpha_table.specs.declared.op.Op.TheVariants.{Cmovgt}
 use Rattle.alpha_table.specs.declared.columns.MemAccess.{MemAccess}
 use Rattle.alpha_table.specs.declared.form.Src.{Src}
 use Rattle.alpha_table.specs.declared.form.Src.TheVariants.{Reg, Lit}
-use Rattle.alpha_table.specs.Class.{Class, operate, trigger, address, load, store, load_locked, store_conditional, branch, jump}
+use Rattle.alpha_table.specs.Class.{Class, operate, trigger, address, load, store, load_locked, store_conditional}
+use Rattle.alpha_table.specs.Class.{branch, jump}
 
 -- the register of a second source, if it is one
 abbrev pub source_registers : Src → List ℕ

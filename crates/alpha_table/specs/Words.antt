@@ -7,7 +7,15 @@ use Rattle.alpha_words.specs.declared.Level.TheVariants.{One, Two}
 use Rattle.alpha_words.specs.declared.PalCall.{PalCall}
 use Rattle.alpha_words.specs.declared.PalCall.TheVariants.{Bpt, Bugchk, Callsys, Imb, Rdunique, Wrunique, Gentrap}
 use Rattle.alpha_table.specs.declared.op.Op.{Op}
-use Rattle.alpha_table.specs.declared.op.Op.TheVariants.{Addl, S4addl, Subl, S4subl, Cmpbge, S8addl, S8subl, Cmpult, Addq, S4addq, Subq, S4subq, Cmpeq, S8addq, S8subq, Cmpule, AddlV, SublV, Cmplt, AddqV, SubqV, Cmple, And, Bic, Cmovlbs, Cmovlbc, Bis, Cmoveq, Cmovne, Ornot, Xor, Cmovlt, Cmovge, Eqv, Amask, Cmovle, Cmovgt, Implver, Mskbl, Extbl, Insbl, Mskwl, Extwl, Inswl, Mskll, Extll, Insll, Zap, Zapnot, Mskql, Srl, Extql, Sll, Insql, Sra, Mskwh, Inswh, Extwh, Msklh, Inslh, Extlh, Mskqh, Insqh, Extqh, Mull, Mulq, Umulh, MullV, MulqV, Sextb, Sextw, Ctpop, Ctlz, Cttz}
+use Rattle.alpha_table.specs.declared.op.Op.TheVariants.{Addl, S4addl, Subl, S4subl, Cmpbge, S8addl, S8subl, Cmpult}
+use Rattle.alpha_table.specs.declared.op.Op.TheVariants.{Addq, S4addq, Subq, S4subq, Cmpeq, S8addq, S8subq, Cmpule}
+use Rattle.alpha_table.specs.declared.op.Op.TheVariants.{AddlV, SublV, Cmplt, AddqV, SubqV, Cmple, And, Bic, Cmovlbs}
+use Rattle.alpha_table.specs.declared.op.Op.TheVariants.{Cmovlbc, Bis, Cmoveq, Cmovne, Ornot, Xor, Cmovlt, Cmovge, Eqv}
+use Rattle.alpha_table.specs.declared.op.Op.TheVariants.{Amask, Cmovle, Cmovgt, Implver, Mskbl, Extbl, Insbl, Mskwl}
+use Rattle.alpha_table.specs.declared.op.Op.TheVariants.{Extwl, Inswl, Mskll, Extll, Insll, Zap, Zapnot, Mskql, Srl}
+use Rattle.alpha_table.specs.declared.op.Op.TheVariants.{Extql, Sll, Insql, Sra, Mskwh, Inswh, Extwh, Msklh, Inslh}
+use Rattle.alpha_table.specs.declared.op.Op.TheVariants.{Extlh, Mskqh, Insqh, Extqh, Mull, Mulq, Umulh, MullV, MulqV}
+use Rattle.alpha_table.specs.declared.op.Op.TheVariants.{Sextb, Sextw, Ctpop, Ctlz, Cttz}
 use Rattle.alpha_table.specs.declared.op.Cond.{Cond}
 use Rattle.alpha_table.specs.declared.op.Cond.TheVariants.{Lbc, Lbs, Eq, Ne, Lt, Le, Ge, Gt}
 use Rattle.alpha_table.specs.declared.op.TrapOp.TheVariants as traps
@@ -17,7 +25,8 @@ use Rattle.alpha_table.specs.declared.rows.Extension.TheVariants.{Zero, Sign}
 use Rattle.alpha_table.specs.declared.columns.MemAccess.{MemAccess}
 use Rattle.alpha_table.specs.declared.form.Src.{Src}
 use Rattle.alpha_table.specs.declared.form.Src.TheVariants.{Reg, Lit}
-use Rattle.alpha_table.specs.Class.{Class, operate, trigger, address, load, store, load_locked, store_conditional, branch, jump, barrier, idle}
+use Rattle.alpha_table.specs.Class.{Class, operate, trigger, address, load, store, load_locked, store_conditional}
+use Rattle.alpha_table.specs.Class.{branch, jump, barrier, idle}
 
 -- what a table has under a number
 abbrev pub row_under : {X : Type 0} → ℕ → List (ℕ × X) → Option X
@@ -79,7 +88,8 @@ abbrev pub bit_counts : List (ℕ × Op)
 bit_counts = (0x00, Sextb) ∷ (0x01, Sextw) ∷ (0x30, Ctpop) ∷ (0x32, Ctlz) ∷ (0x33, Cttz) ∷ []
 
 abbrev pub operate_tables : List (ℕ × List (ℕ × Op))
-operate_tables = (0x10, arithmetic) ∷ (0x11, logical) ∷ (0x12, bytewise) ∷ (0x13, multiplication) ∷ (0x1c, bit_counts) ∷ []
+operate_tables =
+    (0x10, arithmetic) ∷ (0x11, logical) ∷ (0x12, bytewise) ∷ (0x13, multiplication) ∷ (0x1c, bit_counts) ∷ []
 
 -- the branches by their opcodes: what each tests its register for, and BR and BSR, which always turn
 abbrev pub branch_table : List (ℕ × Option Cond)
@@ -97,7 +107,8 @@ prefetch_table = (0x8000, idle) ∷ (0xa000, idle) ∷ []
 -- the PALcode calls by their functions
 abbrev pub call_table : List (ℕ × PalCall)
 call_table =
-    (0x80, Bpt) ∷ (0x81, Bugchk) ∷ (0x83, Callsys) ∷ (0x86, Imb) ∷ (0x9e, Rdunique) ∷ (0x9f, Wrunique) ∷ (0xaa, Gentrap) ∷ []
+    (0x80, Bpt) ∷ (0x81, Bugchk) ∷ (0x83, Callsys) ∷ (0x86, Imb) ∷ (0x9e, Rdunique) ∷ (0x9f, Wrunique) ∷ (0xaa, Gentrap)
+    ∷ []
 
 -- the second source of an operate word: a literal where bit 12 is set, else a register behind three zeros
 abbrev pub source_in : ℕ → Option Src
@@ -105,8 +116,8 @@ source_in word =
     if field 12 12 word == 1 then Some (Lit (field 20 13 word))
     else if field 15 13 word == 0 then Some (Reg (field 20 16 word)) else None
 
--- Whether the sources are as the instruction requires: where it has one alone the first is R31, CTPOP, CTLZ and CTTZ take
--- no literal, and IMPLVER takes the literal 1.
+-- Whether the sources are as the instruction requires: where it has one alone the first is R31, CTPOP, CTLZ and CTTZ
+-- take no literal, and IMPLVER takes the literal 1.
 abbrev pub sources_fit : Op → ℕ → Src → Bool
 sources_fit Amask ra src = ra == 31
 sources_fit Sextb ra src = ra == 31
@@ -133,11 +144,13 @@ operating op ra src rc = operate op ra src rc
 
 -- the class of a word, by its format
 abbrev pub memory_in : ℕ → Option Class
-memory_in word = row_under (field 31 26 word) (memory_table (field 25 21 word) (field 20 16 word) (signed_field 15 0 word))
+memory_in word =
+    row_under (field 31 26 word) (memory_table (field 25 21 word) (field 20 16 word) (signed_field 15 0 word))
 
 abbrev pub branch_in : ℕ → Option Class
 branch_in word =
-    option_map (λ condition. branch condition (field 25 21 word) (signed_field 20 0 word)) (row_under (field 31 26 word) branch_table)
+    option_map (λ condition. branch condition (field 25 21 word) (signed_field 20 0 word))
+    (row_under (field 31 26 word) branch_table)
 
 abbrev pub jump_in : ℕ → Option Class
 jump_in word = if field 31 26 word == 0x1a then Some (jump (field 25 21 word) (field 20 16 word)) else None
@@ -150,14 +163,17 @@ operate_in word =
 
 abbrev pub misc_in : ℕ → Option Class
 misc_in word =
-    if field 31 26 word == 0x18 && (field 25 21 word == 31 && field 20 16 word == 31) then row_under (field 15 0 word) barrier_table else None
+    if field 31 26 word == 0x18 && (field 25 21 word == 31 && field 20 16 word == 31)
+    then row_under (field 15 0 word) barrier_table else None
 
 abbrev pub fetch_in : ℕ → Option Class
-fetch_in word = if field 31 26 word == 0x18 && field 25 21 word == 31 then row_under (field 15 0 word) prefetch_table else None
+fetch_in word =
+    if field 31 26 word == 0x18 && field 25 21 word == 31 then row_under (field 15 0 word) prefetch_table else None
 
 abbrev pub pal_in : ℕ → Option Class
 pal_in word =
-    if field 31 26 word == 0 then option_map (λ call. barrier (Some call)) (row_under (field 25 0 word) call_table) else None
+    if field 31 26 word == 0 then option_map (λ call. barrier (Some call)) (row_under (field 25 0 word) call_table)
+    else None
 
 unfoldable pub class_in : ℕ → Option Class
 class_in word =

@@ -2,7 +2,7 @@ ghost use Rattle.std.specs.Prelude.{◌≡◌, ◌<◌, ◌↔◌, ℕ, IsTrue, 
 ghost use Rattle.alpha_words.specs.Field.{field};
 ghost use Rattle.alpha_table.specs.Row.{Row, SourceField};
 ghost use Rattle.alpha_table.specs.Decoded.{decoded};
-ghost use Rattle.alpha_table.specs.Insn.{Stands, source_in, is_at, suits, tables_suit};
+ghost use Rattle.alpha_table.specs.Insn.{Decodes, source_in, is_at, matches_row, tables_suit};
 ghost use Rattle.alpha_table.specs.declared.form.Form.TheVariants.{Misc, Fetch, Pal};
 ghost use Rattle.alpha_table.specs.declared.insn.InsnRow.TheVariants.{Other};
 
@@ -17,7 +17,7 @@ use alpha_words::{Reg, Word};
 fn row_in(rows: &[[InsnRow; 128]], opcode: u8, function: u8) -> InsnRow
     requires rows { IsTrue (tables_suit 0 rows.now) }
     requires within { (opcode < length rows.now) × (function < 128) }
-    ensures { IsTrue (suits opcode function result) }
+    ensures { IsTrue (matches_row opcode function result) }
 {
     rows[usize::from(opcode)][usize::from(function)]
 }
@@ -33,7 +33,7 @@ fn has_source(w: Word) -> bool
 // The row of an operate word whose operands not all words of the row have.
 fn ruled(op: Op, w: Word) -> Option<InsnRow>
     requires { IsTrue (is_at (field 31 26 w.0) (field 11 5 w.0) op) }
-    ensures found { IfSome result (λ row. Stands row w.0) }
+    ensures found { IfSome result (λ row. Decodes row w.0) }
     ensures none { IfNone result ((i : _) → Row w.0 i → ⊥) }
 {
     if !has_source(w) {
@@ -48,7 +48,7 @@ fn ruled(op: Op, w: Word) -> Option<InsnRow>
 
 fn misc(w: Word) -> Option<InsnRow>
     requires { field 31 26 w.0 ≡ 0x18 }
-    ensures found { IfSome result (λ row. Stands row w.0) }
+    ensures found { IfSome result (λ row. Decodes row w.0) }
     ensures none { IfNone result ((op : _) → Row w.0 (Misc op) → ⊥) }
 {
     if w.ra() != Reg::ZERO || w.rb() != Reg::ZERO {
@@ -59,7 +59,7 @@ fn misc(w: Word) -> Option<InsnRow>
 
 fn fetch(w: Word) -> Option<InsnRow>
     requires { field 31 26 w.0 ≡ 0x18 }
-    ensures found { IfSome result (λ row. Stands row w.0) }
+    ensures found { IfSome result (λ row. Decodes row w.0) }
     ensures none { IfNone result ((modify : _) (rb : ℕ) → Row w.0 (Fetch modify rb) → ⊥) }
 {
     if w.ra() != Reg::ZERO {
@@ -72,7 +72,7 @@ fn fetch(w: Word) -> Option<InsnRow>
 
 fn pal(w: Word) -> Option<InsnRow>
     requires { field 31 26 w.0 ≡ 0x00 }
-    ensures found { IfSome result (λ row. Stands row w.0) }
+    ensures found { IfSome result (λ row. Decodes row w.0) }
     ensures none { IfNone result ((call : _) → Row w.0 (Pal call) → ⊥) }
 {
     Some(InsnRow::Pal(pal_call_at(w.pal())?))
@@ -81,8 +81,8 @@ fn pal(w: Word) -> Option<InsnRow>
 // The row of a word whose opcode has a format of its own, or which no row has.
 #[inline(always)]
 fn other(w: Word) -> Option<InsnRow>
-    requires { IsTrue (suits (field 31 26 w.0) (field 11 5 w.0) Other) }
-    ensures found { IfSome result (λ row. Stands row w.0) }
+    requires { IsTrue (matches_row (field 31 26 w.0) (field 11 5 w.0) Other) }
+    ensures found { IfSome result (λ row. Decodes row w.0) }
     ensures none { IfNone result ((i : _) → Row w.0 i → ⊥) }
 {
     match w.opcode() {
@@ -97,8 +97,8 @@ fn other(w: Word) -> Option<InsnRow>
 
 // The row of a word, of which its opcode and its function may not tell all.
 fn row_by_rest(row: InsnRow, w: Word) -> Option<InsnRow>
-    requires { IsTrue (suits (field 31 26 w.0) (field 11 5 w.0) row) }
-    ensures found { IfSome result (λ row. Stands row w.0) }
+    requires { IsTrue (matches_row (field 31 26 w.0) (field 11 5 w.0) row) }
+    ensures found { IfSome result (λ row. Decodes row w.0) }
     ensures none { IfNone result ((i : _) → Row w.0 i → ⊥) }
 {
     match row {
@@ -120,8 +120,8 @@ fn row_by_rest(row: InsnRow, w: Word) -> Option<InsnRow>
 #[cold]
 #[inline(never)]
 fn rare(row: InsnRow, w: Word) -> InsnRow
-    requires { IsTrue (suits (field 31 26 w.0) (field 11 5 w.0) row) }
-    ensures found { (result ≡ Other → ⊥) → Stands result w.0 }
+    requires { IsTrue (matches_row (field 31 26 w.0) (field 11 5 w.0) row) }
+    ensures found { (result ≡ Other → ⊥) → Decodes result w.0 }
     ensures none { result ≡ Other → (i : _) → Row w.0 i → ⊥ }
 {
     match row {
@@ -139,7 +139,7 @@ fn rare(row: InsnRow, w: Word) -> InsnRow
 // The instruction of a word by the row that its opcode and its function have.
 #[inline(always)]
 fn insn_by(row: InsnRow, w: Word) -> Option<Insn>
-    requires { IsTrue (suits (field 31 26 w.0) (field 11 5 w.0) row) }
+    requires { IsTrue (matches_row (field 31 26 w.0) (field 11 5 w.0) row) }
     ensures row { IfSome result (λ i. Row w.0 i) }
     ensures none { IfNone result ((i : _) → Row w.0 i → ⊥) }
 {
@@ -176,7 +176,7 @@ pub fn decode(w: Word) -> Option<Insn>
 
 /// The same, as a part of the code that calls it: for a loop that looks at one word after another
 /// and takes its instruction apart at once.
-#[tactic(auto, using(crate::proofs::Decoding::decoding))]
+#[tactic(auto, using(crate::proofs::DecodedInsns::decoding))]
 #[inline(always)]
 pub fn decode_inline(w: Word) -> Option<Insn>
     ensures row { IfSome result (λ i. Row w.0 i) }

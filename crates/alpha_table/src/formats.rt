@@ -1,5 +1,6 @@
 ghost use Rattle.std.specs.Prelude.{◌≡◌, IfSome, IfNone};
-ghost use Rattle.alpha_table.specs.Rows.{mem_row, mem_name, branch_row, branch_name, jump_kind, jump_name, misc_row, misc_name, fetch_function, fetch_name, pal_function, pal_name};
+ghost use Rattle.alpha_table.specs.Rows.{mem_row, mem_name, branch_row, branch_name, jump_kind, jump_name, misc_row};
+ghost use Rattle.alpha_table.specs.Rows.{misc_name, fetch_function, fetch_name, pal_function, pal_name};
 
 use crate::rows::MiscRow;
 use crate::{
@@ -138,7 +139,8 @@ macro_rules! mnemonics {
 }
 
 macro_rules! memory_row_of {
-    (($row:expr) $($($path:ident)::+ $name:literal $opcode:literal ($role:ident $(($extension:ident))? $bytes:literal $clears:literal),)*) => {
+    (($row:expr) $($($path:ident)::+ $name:literal $opcode:literal
+        ($role:ident $(($extension:ident))? $bytes:literal $clears:literal),)*) => {
         match $row {
             $($($path)::+ => MemRow {
                 opcode: $opcode,

@@ -1,6 +1,6 @@
 ghost use Rattle.std.specs.Prelude.{◌≡◌, ◌↔◌, IfSome, IfNone, IsTrue};
 ghost use Rattle.alpha_table.specs.Row.{Row, IsInsn, OperandsFit};
-ghost use Rattle.alpha_table.specs.Insn.{Stands, source_in, form_in, form_row};
+ghost use Rattle.alpha_table.specs.Insn.{Decodes, source_in, form_in, form_row};
 
 use crate::encoder::word_of;
 use crate::{BranchOp, Form, JumpKind, MemOp, MiscOp, Op, OperandRule, Src};
@@ -88,7 +88,7 @@ impl Insn {
     /// The instruction that a word has by a row.
     #[inline(always)]
     pub(crate) fn at(row: InsnRow, word: Word) -> Insn
-        requires { Stands row word.0 }
+        requires { Decodes row word.0 }
         ensures { Row word.0 result }
     {
         Insn { row, word }
@@ -127,7 +127,7 @@ pub(crate) fn source(w: Word) -> Src
 // The instruction that a word has by its row.
 #[inline(always)]
 fn form_in(row: InsnRow, w: Word) -> Form
-    requires { Stands row w.0 }
+    requires { Decodes row w.0 }
     ensures { result ≡ form_in row w.0 }
 {
     match row {

@@ -89,7 +89,8 @@ macro_rules! operate_rows {
 }
 
 macro_rules! row_of {
-    (($op:expr) $($row:ident $name:literal $opcode:literal $function:literal $role:ident $(($trap:ident))? $operands:ident $level:ident,)*) => {
+    (($op:expr) $($row:ident $name:literal $opcode:literal $function:literal $role:ident
+        $(($trap:ident))? $operands:ident $level:ident,)*) => {
         match $op {
             $(Op::$row => OpRow {
                 opcode: $opcode,
@@ -112,7 +113,8 @@ macro_rules! trap_in {
 }
 
 macro_rules! trap_of {
-    (($op:expr) $($row:ident $name:literal $opcode:literal $function:literal $role:ident $(($trap:ident))? $operands:ident $level:ident,)*) => {
+    (($op:expr) $($row:ident $name:literal $opcode:literal $function:literal $role:ident
+        $(($trap:ident))? $operands:ident $level:ident,)*) => {
         match $op {
             $(Op::$row => trap_in!($role $($trap)?),)*
         }
@@ -120,7 +122,8 @@ macro_rules! trap_of {
 }
 
 macro_rules! operands_of {
-    (($op:expr) $($row:ident $name:literal $opcode:literal $function:literal $role:ident $(($trap:ident))? $operands:ident $level:ident,)*) => {
+    (($op:expr) $($row:ident $name:literal $opcode:literal $function:literal $role:ident
+        $(($trap:ident))? $operands:ident $level:ident,)*) => {
         match $op {
             $(Op::$row => OperandRule::$operands,)*
         }
@@ -128,7 +131,8 @@ macro_rules! operands_of {
 }
 
 macro_rules! name_of {
-    (($op:expr) $($row:ident $name:literal $opcode:literal $function:literal $role:ident $(($trap:ident))? $operands:ident $level:ident,)*) => {
+    (($op:expr) $($row:ident $name:literal $opcode:literal $function:literal $role:ident
+        $(($trap:ident))? $operands:ident $level:ident,)*) => {
         match $op {
             $(Op::$row => $name,)*
         }
@@ -136,7 +140,8 @@ macro_rules! name_of {
 }
 
 macro_rules! mnemonics {
-    (() $($row:ident $name:literal $opcode:literal $function:literal $role:ident $(($trap:ident))? $operands:ident $level:ident,)*) => {
+    (() $($row:ident $name:literal $opcode:literal $function:literal $role:ident
+        $(($trap:ident))? $operands:ident $level:ident,)*) => {
         [$(Mnemonic::Operate(Op::$row),)*]
     };
 }

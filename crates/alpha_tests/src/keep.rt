@@ -1,5 +1,5 @@
-//! What a keep leaves where a call of the file system fails, or where somebody or the system plays it a trick: the calls
-//! go on to the real one, but for those. Of `alpha_io`.
+//! What a keep leaves where a call of the file system fails, or where somebody or the system plays it a trick: the
+//! calls go on to the real one, but for those. Of `alpha_io`.
 
 use alpha_io::{DiskShelf, Failed, Shelf};
 use std::alloc::{Allocator, Global};
@@ -168,9 +168,9 @@ impl<'a> Files for Failing<'a> {
 
     type Dir = <HostRuntime as Files>::Dir;
 
-    fn open_file(&self, how: &OpenOptions, path: &str) -> io::Result<FailingFile<'a>> {
+    fn open_file(&self, options: &OpenOptions, path: &str) -> io::Result<FailingFile<'a>> {
         self.turn()?;
-        let file = self.rt.open_file(how, path)?;
+        let file = self.rt.open_file(options, path)?;
         Ok(FailingFile { files: *self, file })
     }
 
@@ -330,8 +330,8 @@ fn each_call_that_fails_leaves_the_old_file(rt: HostRuntime) -> Result<(), Fail>
         assert_eq!(rt; answer.is_err(), n < calls);
         failures = failures.saturating_add(u32::from(answer.is_err()));
     }
-    // the three opens, what they opened, what the name leads to, whose folder it is, the number, the mode, the write, the
-    // rename and the two syncs
+    // the three opens, what they opened, what the name leads to, whose folder it is, the number, the mode, the write,
+    // the rename and the two syncs
     assert!(rt; failures >= 13);
     clear(&rt);
     Ok(())

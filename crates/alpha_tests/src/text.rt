@@ -1,5 +1,5 @@
 mod bytes;
-mod near;
+mod near_misses;
 
 use alpha_quick::{read_insn, read_line};
 use alpha_text::{Item, LineBuf, LineFault, LineFaultKind, Statement, write_line};

@@ -1,4 +1,4 @@
-pub mod Behind
+pub mod SuffixReading
 pub mod Bounds
 pub mod Formats
 pub mod Items
@@ -9,4 +9,4 @@ pub mod References
 pub mod Registers
 pub mod Returns
 pub mod Round
-pub mod Spelling
+pub mod CanonicalTokens

@@ -1,5 +1,6 @@
 -- A register by its number has that number.
-use Rattle.std.proofs.Common.{◌≡◌, ◌⊎◌, ℕ, List, [], ◌∷◌, ◌+◌, ◌/◌, ◌%◌, ◌<◌, ◌≤◌, ◌&&◌, Bool, true, false, cond, eqb, nat_lt, Option, Some, None, decimal, refl, ◌∙◌, ap, inl, inr, arith}
+use Rattle.std.proofs.Common.{◌≡◌, ◌⊎◌, ℕ, List, [], ◌∷◌, ◌+◌, ◌/◌, ◌%◌, ◌<◌, ◌≤◌, ◌&&◌, Bool, true, false, cond, eqb}
+use Rattle.std.proofs.Common.{nat_lt, Option, Some, None, decimal, refl, ◌∙◌, ap, inl, inr, arith}
 use Prim.Native.Nat.{zero, suc}
 use Rattle.std.proofs.lemmas.Fmt.{decimal_digit, decimal_step}
 use Rattle.std.proofs.lemmas.Bool.Decides.{nat_tests}
@@ -13,10 +14,12 @@ digits_of n = cond (nat_lt n 10) ((48 + n) ∷ []) ((48 + n / 10) ∷ (48 + n % 
 decimal-digits_of : (n : ℕ) → n < 100 → decimal n ≡ digits_of n
 unfolding digits_of
 decimal-digits_of n h =
-    let either : (b : Bool) → nat_lt n 10 ≡ b → decimal n ≡ cond b ((48 + n) ∷ []) ((48 + n / 10) ∷ (48 + n % 10) ∷ []) =
+    let either : (b : Bool) → nat_lt n 10 ≡ b
+    → decimal n ≡ cond b ((48 + n) ∷ []) ((48 + n / 10) ∷ (48 + n % 10) ∷ []) =
     λ b. elim b as (λ v. nat_lt n 10 ≡ v → decimal n ≡ cond v ((48 + n) ∷ []) ((48 + n / 10) ∷ (48 + n % 10) ∷ [])) [
       | true ↦ λ e. decimal_digit n (let l : n < 10 = grind (arith, nat_tests) in l)
-      | false ↦ λ e. let l : 10 ≤ n = grind (arith, nat_tests) in decimal_step n l (omega arith) ∙ rw (decimal_digit (n / 10) (omega arith)) refl
+      | false ↦ λ e. let l : 10 ≤ n = grind (arith, nat_tests) in
+          decimal_step n l (omega arith) ∙ rw (decimal_digit (n / 10) (omega arith)) refl
     ] in
     either (nat_lt n 10) refl
 
@@ -52,4 +55,6 @@ each_named = refl
 
 pub register_of-number : (r : ℕ) → r < 32 → register_of (36 ∷ decimal r) ≡ Some r
 unfolding named_so
-register_of-number r h = ap (λ d. register_of (36 ∷ d)) (decimal-digits_of r (omega arith)) ∙ is_some_number-is (register_of (36 ∷ digits_of r)) r (each_below-is named_so 32 r each_named h)
+register_of-number r h =
+    ap (λ d. register_of (36 ∷ d)) (decimal-digits_of r (omega arith))
+    ∙ is_some_number-is (register_of (36 ∷ digits_of r)) r (each_below-is named_so 32 r each_named h)

@@ -15,81 +15,85 @@ use Rattle.alpha_table.specs.Names.{name_of}
 use Rattle.alpha_table.specs.Decoded.{every_op, every_mem, every_branch, every_jump, every_misc, every_pal}
 use Rattle.alpha_operands.specs.declared.shape.Shape.{Shape}
 use Rattle.alpha_operands.specs.declared.shape.Shape.TheVariants as shapes
-use Rattle.alpha_text.specs.declared.head.Own.{Own}
-use Rattle.alpha_text.specs.declared.head.Own.TheVariants as owns
+use Rattle.alpha_text.specs.declared.head.PseudoOp.{PseudoOp}
+use Rattle.alpha_text.specs.declared.head.PseudoOp.TheVariants as owns
 use Rattle.alpha_text.specs.declared.head.Head.{Head}
 use Rattle.alpha_text.specs.declared.head.Head.TheVariants as heads
 
 -- the names beside the instruction table
-abbrev pub own_name : Own → List ℕ
-own_name owns.Byte = codes ".byte"
-own_name owns.Word = codes ".word"
-own_name owns.Long = codes ".long"
-own_name owns.Quad = codes ".quad"
-own_name owns.Ascii = codes ".ascii"
-own_name owns.Zero = codes ".zero"
-own_name owns.Align = codes ".align"
-own_name owns.Code = codes ".code"
-own_name owns.Data = codes ".data"
-own_name owns.Segment = codes ".segment"
-own_name owns.CodeBase = codes ".codebase"
-own_name owns.DataBase = codes ".database"
-own_name owns.Stack = codes ".stack"
-own_name owns.Entry = codes ".entry"
-own_name owns.Level = codes ".level"
-own_name owns.Mov = codes "mov"
-own_name owns.Clr = codes "clr"
-own_name owns.Nop = codes "nop"
-own_name owns.Unop = codes "unop"
-own_name owns.Not = codes "not"
-own_name owns.Negl = codes "negl"
-own_name owns.Negq = codes "negq"
-own_name owns.NeglV = codes "negl/v"
-own_name owns.NegqV = codes "negq/v"
-own_name owns.Sextl = codes "sextl"
-own_name owns.CallPal = codes "call_pal"
+abbrev pub pseudo_op_name : PseudoOp → List ℕ
+pseudo_op_name owns.Byte = codes ".byte"
+pseudo_op_name owns.Word = codes ".word"
+pseudo_op_name owns.Long = codes ".long"
+pseudo_op_name owns.Quad = codes ".quad"
+pseudo_op_name owns.Ascii = codes ".ascii"
+pseudo_op_name owns.Zero = codes ".zero"
+pseudo_op_name owns.Align = codes ".align"
+pseudo_op_name owns.Code = codes ".code"
+pseudo_op_name owns.Data = codes ".data"
+pseudo_op_name owns.Segment = codes ".segment"
+pseudo_op_name owns.CodeBase = codes ".codebase"
+pseudo_op_name owns.DataBase = codes ".database"
+pseudo_op_name owns.Stack = codes ".stack"
+pseudo_op_name owns.Entry = codes ".entry"
+pseudo_op_name owns.Level = codes ".level"
+pseudo_op_name owns.Mov = codes "mov"
+pseudo_op_name owns.Clr = codes "clr"
+pseudo_op_name owns.Nop = codes "nop"
+pseudo_op_name owns.Unop = codes "unop"
+pseudo_op_name owns.Not = codes "not"
+pseudo_op_name owns.Negl = codes "negl"
+pseudo_op_name owns.Negq = codes "negq"
+pseudo_op_name owns.NeglV = codes "negl/v"
+pseudo_op_name owns.NegqV = codes "negq/v"
+pseudo_op_name owns.Sextl = codes "sextl"
+pseudo_op_name owns.CallPal = codes "call_pal"
 
 -- the shape of what stands behind each
-abbrev pub own_shape : Own → Shape
-own_shape owns.Byte = shapes.Bytes
-own_shape owns.Word = shapes.Words
-own_shape owns.Long = shapes.Longs
-own_shape owns.Quad = shapes.Quads
-own_shape owns.Ascii = shapes.Text
-own_shape owns.Zero = shapes.Zeroed
-own_shape owns.Align = shapes.Align
-own_shape owns.Code = shapes.Alone
-own_shape owns.Data = shapes.Alone
-own_shape owns.Segment = shapes.Field
-own_shape owns.CodeBase = shapes.Field
-own_shape owns.DataBase = shapes.Field
-own_shape owns.Stack = shapes.Field
-own_shape owns.Entry = shapes.Entry
-own_shape owns.Level = shapes.Level
-own_shape owns.Mov = shapes.Move
-own_shape owns.Clr = shapes.Single
-own_shape owns.Nop = shapes.Alone
-own_shape owns.Unop = shapes.Alone
-own_shape owns.Not = shapes.Pair
-own_shape owns.Negl = shapes.Pair
-own_shape owns.Negq = shapes.Pair
-own_shape owns.NeglV = shapes.Pair
-own_shape owns.NegqV = shapes.Pair
-own_shape owns.Sextl = shapes.Pair
-own_shape owns.CallPal = shapes.CallPal
+abbrev pub pseudo_op_shape : PseudoOp → Shape
+pseudo_op_shape owns.Byte = shapes.Bytes
+pseudo_op_shape owns.Word = shapes.Words
+pseudo_op_shape owns.Long = shapes.Longs
+pseudo_op_shape owns.Quad = shapes.Quads
+pseudo_op_shape owns.Ascii = shapes.Text
+pseudo_op_shape owns.Zero = shapes.Zeroed
+pseudo_op_shape owns.Align = shapes.Align
+pseudo_op_shape owns.Code = shapes.Alone
+pseudo_op_shape owns.Data = shapes.Alone
+pseudo_op_shape owns.Segment = shapes.Field
+pseudo_op_shape owns.CodeBase = shapes.Field
+pseudo_op_shape owns.DataBase = shapes.Field
+pseudo_op_shape owns.Stack = shapes.Field
+pseudo_op_shape owns.Entry = shapes.Entry
+pseudo_op_shape owns.Level = shapes.Level
+pseudo_op_shape owns.Mov = shapes.Move
+pseudo_op_shape owns.Clr = shapes.Single
+pseudo_op_shape owns.Nop = shapes.Alone
+pseudo_op_shape owns.Unop = shapes.Alone
+pseudo_op_shape owns.Not = shapes.Pair
+pseudo_op_shape owns.Negl = shapes.Pair
+pseudo_op_shape owns.Negq = shapes.Pair
+pseudo_op_shape owns.NeglV = shapes.Pair
+pseudo_op_shape owns.NegqV = shapes.Pair
+pseudo_op_shape owns.Sextl = shapes.Pair
+pseudo_op_shape owns.CallPal = shapes.CallPal
 
-unfoldable pub every_own : List Own
-every_own =
-    owns.Byte ∷ owns.Word ∷ owns.Long ∷ owns.Quad ∷ owns.Ascii ∷ owns.Zero ∷ owns.Align ∷ owns.Code ∷ owns.Data ∷ owns.Segment ∷ owns.CodeBase ∷ owns.DataBase ∷ owns.Stack ∷ owns.Entry ∷ owns.Level ∷ owns.Mov ∷ owns.Clr ∷ owns.Nop ∷ owns.Unop ∷ owns.Not ∷ owns.Negl ∷ owns.Negq ∷ owns.NeglV ∷ owns.NegqV ∷ owns.Sextl ∷ owns.CallPal ∷ []
+unfoldable pub every_pseudo_op : List PseudoOp
+every_pseudo_op =
+    owns.Byte ∷ owns.Word ∷ owns.Long ∷ owns.Quad ∷ owns.Ascii ∷ owns.Zero ∷ owns.Align ∷ owns.Code ∷ owns.Data
+    ∷ owns.Segment ∷ owns.CodeBase ∷ owns.DataBase ∷ owns.Stack ∷ owns.Entry ∷ owns.Level ∷ owns.Mov ∷ owns.Clr
+    ∷ owns.Nop ∷ owns.Unop ∷ owns.Not ∷ owns.Negl ∷ owns.Negq ∷ owns.NeglV ∷ owns.NegqV ∷ owns.Sextl ∷ owns.CallPal ∷ []
 
 -- the one of a name
-abbrev pub own_at : List ℕ → Option Own
-own_at name = find (λ o. bytes_eq (own_name o) name) every_own
+abbrev pub pseudo_op_at : List ℕ → Option PseudoOp
+pseudo_op_at name = find (λ o. bytes_eq (pseudo_op_name o) name) every_pseudo_op
 
 -- every row of the instruction table
 unfoldable pub every_mnemonic : List Mnemonic
 every_mnemonic =
-    map mnemonics.Operate every_op ++ (map mnemonics.Mem every_mem ++ (map mnemonics.Branch every_branch ++ (map mnemonics.Jump every_jump ++ (map mnemonics.Misc every_misc ++
+    map mnemonics.Operate every_op
+    ++ (map mnemonics.Mem every_mem
+    ++ (map mnemonics.Branch every_branch ++ (map mnemonics.Jump every_jump ++ (map mnemonics.Misc every_misc ++
     (mnemonics.Fetch false ∷ mnemonics.Fetch true ∷ map mnemonics.Pal every_pal)))))
 
 abbrev pub mnemonic_at : List ℕ → Option Mnemonic
@@ -97,7 +101,7 @@ mnemonic_at name = find (λ m. bytes_eq (name_of m) name) every_mnemonic
 
 -- what a name stands for
 unfoldable pub head_of : List ℕ → Option Head
-head_of name = option_or (option_map heads.Insn (mnemonic_at name)) (option_map heads.Own (own_at name))
+head_of name = option_or (option_map heads.Insn (mnemonic_at name)) (option_map heads.PseudoOp (pseudo_op_at name))
 
 abbrev pub operate_shape : OperandRule → Shape
 operate_shape Any = shapes.Operate
@@ -123,9 +127,9 @@ shape_of (heads.Insn (mnemonics.Operate op)) = operate_shape (op_row op).operand
 shape_of (heads.Insn (mnemonics.Misc op)) = shapes.Alone
 shape_of (heads.Insn (mnemonics.Fetch modify)) = shapes.Prefetch
 shape_of (heads.Insn (mnemonics.Pal call)) = shapes.Alone
-shape_of (heads.Own own) = own_shape own
+shape_of (heads.PseudoOp pseudo_op) = pseudo_op_shape pseudo_op
 
 -- the name of each
 abbrev pub head_name : Head → List ℕ
 head_name (heads.Insn m) = name_of m
-head_name (heads.Own own) = own_name own
+head_name (heads.PseudoOp pseudo_op) = pseudo_op_name pseudo_op

@@ -1,4 +1,4 @@
-pub mod Behind
+pub mod SuffixWords
 pub mod Bounds
 pub mod Canon
 pub mod Grammar

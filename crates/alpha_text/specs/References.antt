@@ -5,8 +5,8 @@ use Rattle.alpha_table.specs.declared.form.Form.{Form}
 use Rattle.alpha_table.specs.declared.form.Form.TheVariants.{Mem, Branch}
 use Rattle.alpha_token.specs.Bytes.{is_label}
 use Rattle.alpha_operands.specs.Values.{Listed, number, label as listed_label, AreValuesOf}
-use Rattle.alpha_text.specs.Statements.{Said, target, high, low, entry_label, values}
-use Rattle.alpha_text.specs.Reading.{LineSaid}
+use Rattle.alpha_text.specs.Statements.{Stmt, target, high, low, entry_label, values}
+use Rattle.alpha_text.specs.Reading.{LineStmt}
 
 -- from -(2 ^ 31 - 1) to 2 ^ 31 - 1
 abbrev pub IsOffset : ℤ → Type 0
@@ -34,14 +34,15 @@ IsListedWell n (number value) = ⊤
 IsListedWell n (listed_label name offset) = IsReference n name offset
 
 -- each address of a label that a statement of a line of n bytes names, and the instruction that it is put into
-abbrev pub RefersWell : ℕ → Said → Type 0
+abbrev pub RefersWell : ℕ → Stmt → Type 0
 RefersWell n (target insn name offset) = HasNoWords insn × IsReference n name offset
 RefersWell n (high insn name offset) = HasNoBytes insn × IsReference n name offset
 RefersWell n (low insn name offset) = HasNoBytes insn × IsReference n name offset
 RefersWell n (entry_label name offset) = IsReference n name offset
-RefersWell n (values bytes list) = (all : List Listed) → AreValuesOf bytes list all → AllByRecursion (IsListedWell n) all
+RefersWell n (values bytes list) =
+    (all : List Listed) → AreValuesOf bytes list all → AllByRecursion (IsListedWell n) all
 RefersWell n _ = ⊤
 
-pub record IsWell (n : ℕ) (l : LineSaid) : Type 0 where
+pub record IsWell (n : ℕ) (l : LineStmt) : Type 0 where
   pub label : IfSome l.label (IsLabel n)
   pub statement : RefersWell n l.statement

@@ -1,10 +1,11 @@
 ghost use Rattle.std.specs.Prelude.{◌≡◌, []};
 ghost use Rattle.std.specs.Option.{unwrap_or, option_map};
 ghost use Rattle.alpha_operands.specs.Operands.{slots};
-ghost use Rattle.alpha_text.specs.Statements.{said, whole_in, zeroed_in, align_in, level_in, entry_said, directive_said};
+ghost use Rattle.alpha_text.specs.Statements.{stmt_of, whole_in, zeroed_in, align_in, level_in, entry_stmt};
+ghost use Rattle.alpha_text.specs.Statements.{directive_stmt};
 
 use crate::Statement;
-use crate::head::Own;
+use crate::head::PseudoOp;
 use crate::instruction::expr;
 use alpha_operands::{Number, Operands};
 
@@ -50,7 +51,7 @@ fn level(number: Option<Number>) -> u8
 
 // `.entry`, at an address or at a label.
 fn entry<'a>(o: &Operands<'a>) -> Statement<'a>
-    ensures { said result ≡ entry_said (slots o.now) (slots o.now).label }
+    ensures { stmt_of result ≡ entry_stmt (slots o.now) (slots o.now).label }
 {
     match o.label {
         Some(label) => {
@@ -72,25 +73,29 @@ fn text<'a>(text: Option<&'a [u8]>) -> &'a [u8]
 }
 
 // A directive, whose operands stand in `list`.
-pub(crate) fn of_directive<'a>(own: Own, o: &Operands<'a>, list: &'a [u8]) -> Statement<'a>
-    ensures { said result ≡ directive_said own (slots o.now) list.now }
+pub(crate) fn of_directive<'a>(
+    pseudo_op: PseudoOp,
+    o: &Operands<'a>,
+    list: &'a [u8],
+) -> Statement<'a>
+    ensures { stmt_of result ≡ directive_stmt pseudo_op (slots o.now) list.now }
 {
-    match own {
-        Own::Byte => Statement::Values { bytes: 1, list },
-        Own::Word => Statement::Values { bytes: 2, list },
-        Own::Long => Statement::Values { bytes: 4, list },
-        Own::Quad => Statement::Values { bytes: 8, list },
-        Own::Ascii => Statement::Text(text(o.text)),
-        Own::Zero => Statement::Zero(zeroed(o.number)),
-        Own::Align => Statement::Align(align(o.number)),
-        Own::Code => Statement::CodeSection,
-        Own::Data => Statement::DataSection,
-        Own::Segment => Statement::Segment(whole(o.number)),
-        Own::CodeBase => Statement::CodeBase(whole(o.number)),
-        Own::DataBase => Statement::DataBase(whole(o.number)),
-        Own::Stack => Statement::Stack(whole(o.number)),
-        Own::Entry => entry(o),
-        Own::Level => Statement::Level(level(o.number)),
+    match pseudo_op {
+        PseudoOp::Byte => Statement::Values { bytes: 1, list },
+        PseudoOp::Word => Statement::Values { bytes: 2, list },
+        PseudoOp::Long => Statement::Values { bytes: 4, list },
+        PseudoOp::Quad => Statement::Values { bytes: 8, list },
+        PseudoOp::Ascii => Statement::Text(text(o.text)),
+        PseudoOp::Zero => Statement::Zero(zeroed(o.number)),
+        PseudoOp::Align => Statement::Align(align(o.number)),
+        PseudoOp::Code => Statement::CodeSection,
+        PseudoOp::Data => Statement::DataSection,
+        PseudoOp::Segment => Statement::Segment(whole(o.number)),
+        PseudoOp::CodeBase => Statement::CodeBase(whole(o.number)),
+        PseudoOp::DataBase => Statement::DataBase(whole(o.number)),
+        PseudoOp::Stack => Statement::Stack(whole(o.number)),
+        PseudoOp::Entry => entry(o),
+        PseudoOp::Level => Statement::Level(level(o.number)),
         _ => Statement::Empty,
     }
 }

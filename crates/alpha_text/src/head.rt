@@ -1,13 +1,13 @@
 ghost use Rattle.std.specs.Prelude.{◌≡◌, find};
 ghost use Rattle.std.specs.Str.{bytes_eq};
-ghost use Rattle.alpha_text.specs.Heads.{own_name, own_shape, own_at, shape_of, head_of};
+ghost use Rattle.alpha_text.specs.Heads.{pseudo_op_name, pseudo_op_shape, pseudo_op_at, shape_of, head_of};
 
 use alpha_operands::Shape;
 use alpha_table::{BranchOp, JumpKind, Mnemonic, OperandRule};
 
 /// A pseudo-operation, a directive, or `call_pal`: a name that isn't in the instruction table.
 #[derive(Clone, Copy, Debug, PartialEq, Eq)]
-pub enum Own {
+pub enum PseudoOp {
     /// `.byte`.
     Byte,
     /// `.word`.
@@ -63,7 +63,7 @@ pub enum Own {
 }
 
 /// The rows: each with its name and the shape of its operands.
-macro_rules! own_rows {
+macro_rules! pseudo_op_rows {
     ($then:ident $($given:expr),*) => {
         $then! {
             ($($given),*)
@@ -99,14 +99,14 @@ macro_rules! own_rows {
 
 macro_rules! every {
     (() $($own:ident $name:literal $shape:ident,)*) => {
-        [$(Own::$own,)*]
+        [$(PseudoOp::$own,)*]
     };
 }
 
 macro_rules! name {
     (($given:expr) $($own:ident $name:literal $shape:ident,)*) => {
         match $given {
-            $(Own::$own => $name,)*
+            $(PseudoOp::$own => $name,)*
         }
     };
 }
@@ -114,43 +114,43 @@ macro_rules! name {
 macro_rules! shape {
     (($given:expr) $($own:ident $name:literal $shape:ident,)*) => {
         match $given {
-            $(Own::$own => Shape::$shape,)*
+            $(PseudoOp::$own => Shape::$shape,)*
         }
     };
 }
 
-const EVERY: [Own; 26] = own_rows!(every);
+const EVERY: [PseudoOp; 26] = pseudo_op_rows!(every);
 
-impl Own {
+impl PseudoOp {
     /// Its name.
     pub fn name(self) -> &'static [u8]
-        ensures { result.now ≡ own_name self }
+        ensures { result.now ≡ pseudo_op_name self }
     {
-        own_rows!(name self)
+        pseudo_op_rows!(name self)
     }
 
     /// The shape of its operands.
     fn shape(self) -> Shape
-        ensures { result ≡ own_shape self }
+        ensures { result ≡ pseudo_op_shape self }
     {
-        own_rows!(shape self)
+        pseudo_op_rows!(shape self)
     }
 
     /// The one of this name.
-    fn of(name: &[u8]) -> Option<Own>
-        ensures { result ≡ own_at name.now }
+    fn of(name: &[u8]) -> Option<PseudoOp>
+        ensures { result ≡ pseudo_op_at name.now }
     {
         named(&EVERY, name)
     }
 }
 
 // The one of this name among some.
-fn named(owns: &[Own], name: &[u8]) -> Option<Own>
-    ensures { result ≡ find (λ o. bytes_eq (own_name o) name.now) owns.now }
+fn named(pseudo_ops: &[PseudoOp], name: &[u8]) -> Option<PseudoOp>
+    ensures { result ≡ find (λ o. bytes_eq (pseudo_op_name o) name.now) pseudo_ops.now }
 {
-    for own in owns {
-        if own.name() == name {
-            return Some(*own);
+    for pseudo_op in pseudo_ops {
+        if pseudo_op.name() == name {
+            return Some(*pseudo_op);
         }
     }
     None
@@ -162,7 +162,7 @@ pub enum Head {
     /// A row of the instruction table.
     Insn(Mnemonic),
     /// A name beside the table.
-    Own(Own),
+    PseudoOp(PseudoOp),
 }
 
 impl Head {
@@ -172,8 +172,8 @@ impl Head {
     {
         match Mnemonic::of(name) {
             Some(found) => Some(Head::Insn(found)),
-            None => match Own::of(name) {
-                Some(own) => Some(Head::Own(own)),
+            None => match PseudoOp::of(name) {
+                Some(pseudo_op) => Some(Head::PseudoOp(pseudo_op)),
                 None => None,
             },
         }
@@ -197,7 +197,7 @@ impl Head {
             },
             Head::Insn(Mnemonic::Fetch { .. }) => Shape::Prefetch,
             Head::Insn(Mnemonic::Misc(_) | Mnemonic::Pal(_)) => Shape::Alone,
-            Head::Own(own) => own.shape(),
+            Head::PseudoOp(pseudo_op) => pseudo_op.shape(),
         }
     }
 }

@@ -7,7 +7,9 @@ ghost use Rattle.alpha_table.specs.declared.form.Src.TheVariants.{Lit};
 ghost use Rattle.alpha_table.specs.declared.op.OperandRule.TheVariants.{Version};
 ghost use Rattle.alpha_operands.specs.Ranges.{IsNumber};
 ghost use Rattle.alpha_operands.specs.Operands.{slots};
-ghost use Rattle.alpha_text.specs.Statements.{said, displacement_in, words_in, hint_in, jump_hint, jump_form, half_said, source_in, memory_said, branch_said, link, operate_form, insn_said, reg};
+ghost use Rattle.alpha_text.specs.Statements.{stmt_of, displacement_in, words_in, hint_in, jump_hint, jump_form};
+ghost use Rattle.alpha_text.specs.Statements.{half_stmt, source_in, memory_stmt, branch_stmt, link, operate_form};
+ghost use Rattle.alpha_text.specs.Statements.{insn_stmt, reg};
 
 use crate::Statement;
 use alpha_operands::{Expr, Half, Number, Operands};
@@ -64,8 +66,8 @@ pub(crate) fn expr<'a>(label: &'a [u8], o: &Operands<'a>) -> Expr<'a>
 }
 
 /// A memory instruction with half of an address, or with none.
-pub fn halved(half: Option<Half>, insn: Insn, address: Expr<'_>) -> Statement<'_>
-    ensures { said result ≡ half_said half insn address.entry.label.now address.entry.offset }
+pub fn with_half(half: Option<Half>, insn: Insn, address: Expr<'_>) -> Statement<'_>
+    ensures { stmt_of result ≡ half_stmt half insn address.entry.label.now address.entry.offset }
 {
     match half {
         Some(Half::High) => Statement::High { insn, address },
@@ -86,7 +88,7 @@ fn displacement(number: Option<Number>) -> i16
 
 // A memory instruction.
 fn memory<'a>(op: MemOp, o: &Operands<'a>) -> Statement<'a>
-    ensures { said result ≡ memory_said op (slots o.now) (slots o.now).label }
+    ensures { stmt_of result ≡ memory_stmt op (slots o.now) (slots o.now).label }
 {
     let ra = reg(o.ra);
     let rb = reg(o.rb);
@@ -99,7 +101,7 @@ fn memory<'a>(op: MemOp, o: &Operands<'a>) -> Statement<'a>
                 disp: 0,
             });
             let address = expr(label, o);
-            halved(o.half, insn, address)
+            with_half(o.half, insn, address)
         }
         None => {
             let disp = displacement(o.number);
@@ -141,7 +143,7 @@ pub fn link(op: BranchOp) -> Reg
 // A branch, to a label or over a distance.
 fn branch<'a>(op: BranchOp, o: &Operands<'a>) -> Statement<'a>
     requires { IfSome o.now.number IsNumber }
-    ensures { said result ≡ branch_said op (slots o.now) (slots o.now).label }
+    ensures { stmt_of result ≡ branch_stmt op (slots o.now) (slots o.now).label }
 {
     let ra = register(o.ra, link(op));
     match o.label {
@@ -249,7 +251,7 @@ fn operate(op: Op, o: &Operands<'_>) -> Insn
 // The statement of an instruction's name.
 pub(crate) fn of_insn<'a>(mnemonic: Mnemonic, o: &Operands<'a>) -> Statement<'a>
     requires { IfSome o.now.number IsNumber }
-    ensures { said result ≡ insn_said mnemonic (slots o.now) }
+    ensures { stmt_of result ≡ insn_stmt mnemonic (slots o.now) }
 {
     match mnemonic {
         Mnemonic::Mem(op) => memory(op, o),

@@ -11,8 +11,8 @@ ghost use Rattle.alpha_text.specs.Reading.{read};
 
 /// The laws of lines. What is read is what the line grammar says, so a line says one thing at most.
 /// The fault that is read is the first of all that the line has: no other stands before it, or at
-/// its column and is of a lesser kind. A line that says something has no fault. The canonical line of an instruction reads back as that
-/// instruction without a label, and different instructions have different canonical lines. A line
+/// its column and is of a lesser kind. A line that says something has no fault. The canonical line of an instruction
+/// reads back as that instruction without a label, and different instructions have different canonical lines. A line
 /// that reads with a carriage return behind it reads the same without.
 pub fn laws_of_lines()
     ensures grammar { (line : List ℕ) (l : _) → (read line ≡ Ok l) ↔ IsLine (tokens line) l }

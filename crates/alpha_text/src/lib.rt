@@ -4,9 +4,9 @@
 //!   [`LineFault`]. [`write_line`] leaves the canonical line of an instruction in a [`LineBuf`].
 //! - [`next_value`] and [`next_byte`] read the values of a list and the bytes of a text.
 //! - For a reader that cuts a line up itself: [`Head`] is what a name stands for, [`with_operands`] gives the
-//!   statement of a head with the operands behind it; [`halved`] and [`list_in`] are parts of statements; [`link`],
+//!   statement of a head with the operands behind it; [`with_half`] and [`list_in`] are parts of statements; [`link`],
 //!   [`return_register`], [`RETURN_HINT`], [`of_zero`] and [`of_no_source`] say what stands for operands that a line
-//!   leaves out, [`operation`], [`cleared`] and [`move_number`] what pseudo-operations stand for.
+//!   leaves out, [`operation`], [`clear_insn`] and [`move_number`] what pseudo-operations stand for.
 //! - [`laws_of_lines`] says that a line is read by its grammar, that the fault that is read is the
 //!   first, that the canonical line of an instruction reads back, and that different instructions
 //!   have different ones; [`laws_of_items`] that an item's list and text are read to their ends;
@@ -19,7 +19,7 @@
 //! stand for, `instruction.rt`, `pseudo.rt` and `directive.rt` each for one kind of names.
 //! `reader.rt` and `specs/Reading.antt` read a line along the patterns of its operands, `writer.rt`
 //! and `specs/Canon.antt` write one. `specs/Grammar.antt` has the line grammar and the faults apart
-//! from reading, `specs/Behind.antt` what stands behind a name apart from the name.
+//! from reading, `specs/SuffixWords.antt` what stands behind a name apart from the name.
 #![tactic(auto)]
 
 mod directive;
@@ -33,10 +33,10 @@ mod writer;
 
 pub use alpha_operands::{Expr, LineFaultKind, ListValue, next_value};
 pub use alpha_token::next_byte;
-pub use head::{Head, Own};
-pub use instruction::{RETURN_HINT, halved, link, of_no_source, of_zero, return_register};
+pub use head::{Head, PseudoOp};
+pub use instruction::{RETURN_HINT, link, of_no_source, of_zero, return_register, with_half};
 pub use laws::{laws_of_items, laws_of_lines, laws_of_references};
-pub use pseudo::{cleared, move_number, operation};
+pub use pseudo::{clear_insn, move_number, operation};
 pub use reader::{Item, LineFault, list_in, read_line, with_operands};
 pub use statement::Statement;
 pub use writer::{LineBuf, write_line};

@@ -5,9 +5,9 @@ ghost use Rattle.alpha_table.specs.declared.form.Src.TheVariants as sources;
 ghost use Rattle.alpha_table.specs.declared.op.Op.TheVariants.{Bis};
 ghost use Rattle.alpha_table.specs.declared.op.OperandRule.TheVariants.{Any};
 ghost use Rattle.alpha_operands.specs.Operands.{slots};
-ghost use Rattle.alpha_text.specs.Statements.{call_in, move_number, move_said, of_zero, operation_of, pseudo_form};
+ghost use Rattle.alpha_text.specs.Statements.{call_in, move_number, move_form, of_zero, operation_of, pseudo_form};
 
-use crate::head::Own;
+use crate::head::PseudoOp;
 use crate::instruction::{insn, numbered, of_zero, reg};
 use alpha_operands::{Number, Operands};
 use alpha_table::{Form, Insn, MemOp, Op, Src};
@@ -26,25 +26,25 @@ fn of_register(op: Op, o: &Operands<'_>) -> Insn
 /// The operation that a pseudo-operation of one register stands for, with R31 as its first source. `None` of all
 /// others.
 #[inline(always)]
-pub fn operation(own: Own) -> Option<Op>
-    ensures value { result ≡ operation_of own }
+pub fn operation(pseudo_op: PseudoOp) -> Option<Op>
+    ensures value { result ≡ operation_of pseudo_op }
     ensures rule { IfSome result (λ op. (op_row op).operands ≡ Any) }
 {
-    match own {
-        Own::Mov => Some(Op::Bis),
-        Own::Not => Some(Op::Ornot),
-        Own::Negl => Some(Op::Subl),
-        Own::Negq => Some(Op::Subq),
-        Own::NeglV => Some(Op::SublV),
-        Own::NegqV => Some(Op::SubqV),
-        Own::Sextl => Some(Op::Addl),
+    match pseudo_op {
+        PseudoOp::Mov => Some(Op::Bis),
+        PseudoOp::Not => Some(Op::Ornot),
+        PseudoOp::Negl => Some(Op::Subl),
+        PseudoOp::Negq => Some(Op::Subq),
+        PseudoOp::NeglV => Some(Op::SublV),
+        PseudoOp::NegqV => Some(Op::SubqV),
+        PseudoOp::Sextl => Some(Op::Addl),
         _ => None,
     }
 }
 
 /// The instruction that sets a register to 0, `clr`, and that of R31, `nop`.
 #[inline(always)]
-pub fn cleared(rc: Reg) -> Insn
+pub fn clear_insn(rc: Reg) -> Insn
     ensures { result ≡ Operate Bis 31 (sources.Reg 31) rc }
 {
     of_zero(Op::Bis, Src::Reg(Reg::ZERO), rc)
@@ -66,8 +66,8 @@ pub fn move_number(n: i16, rc: Reg) -> Insn
 }
 
 // `mov`.
-fn moved(o: &Operands<'_>) -> Insn
-    ensures { result ≡ move_said (slots o.now) o.now.number }
+fn move_insn(o: &Operands<'_>) -> Insn
+    ensures { result ≡ move_form (slots o.now) o.now.number }
 {
     let rc = reg(o.rc);
     match o.number {
@@ -87,22 +87,22 @@ fn call(number: Option<Number>) -> PalCall
 }
 
 // The instruction that a pseudo-operation, or `call_pal`, stands for; `None` for a directive.
-pub(crate) fn of_pseudo(own: Own, o: &Operands<'_>) -> Option<Insn>
-    ensures { result ≡ pseudo_form own (slots o.now) }
+pub(crate) fn of_pseudo(pseudo_op: PseudoOp, o: &Operands<'_>) -> Option<Insn>
+    ensures { result ≡ pseudo_form pseudo_op (slots o.now) }
 {
-    match own {
-        Own::Mov => Some(moved(o)),
-        Own::Clr => Some(cleared(reg(o.rc))),
-        Own::Nop => Some(cleared(Reg::ZERO)),
-        Own::Unop => Some(insn(Form::Mem {
+    match pseudo_op {
+        PseudoOp::Mov => Some(move_insn(o)),
+        PseudoOp::Clr => Some(clear_insn(reg(o.rc))),
+        PseudoOp::Nop => Some(clear_insn(Reg::ZERO)),
+        PseudoOp::Unop => Some(insn(Form::Mem {
             op: MemOp::LdqU,
             ra: Reg::ZERO,
             rb: numbered(30),
             disp: 0,
         })),
-        Own::CallPal => Some(insn(Form::Pal(call(o.number)))),
+        PseudoOp::CallPal => Some(insn(Form::Pal(call(o.number)))),
         _ => {
-            let op = operation(own)?;
+            let op = operation(pseudo_op)?;
             Some(of_register(op, o))
         }
     }

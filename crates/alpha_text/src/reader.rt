@@ -4,8 +4,9 @@ ghost use Rattle.alpha_operands.specs.Operands.{Gives};
 ghost use Rattle.alpha_operands.specs.Shapes.{patterns};
 ghost use Rattle.alpha_operands.specs.Walk.{operands};
 ghost use Rattle.alpha_text.specs.Heads.{shape_of};
-ghost use Rattle.alpha_text.specs.Statements.{said};
-ghost use Rattle.alpha_text.specs.Reading.{item_said, list_in, with_operands, named, statement_of, is_labelled, labelled, behind_label, line_of, read};
+ghost use Rattle.alpha_text.specs.Statements.{stmt_of};
+ghost use Rattle.alpha_text.specs.Reading.{line_stmt_of, list_in, with_operands, named, statement_of, is_labelled};
+ghost use Rattle.alpha_text.specs.Reading.{labelled, line_after_label, line_of, read};
 
 use crate::Statement;
 use crate::head::Head;
@@ -41,7 +42,7 @@ pub fn list_in(behind: &[u8], left: usize) -> &[u8]
 
 /// The statement of a name with the operands behind it, or their first fault.
 pub fn with_operands(head: Head, behind: &[u8]) -> Result<Statement<'_>, OperandFault>
-    ensures { Gives said result
+    ensures { Gives stmt_of result
         (with_operands head behind.now (operands (patterns (shape_of head)) (tokens behind.now))) }
 {
     match head.shape().operands(behind) {
@@ -56,7 +57,7 @@ pub fn with_operands(head: Head, behind: &[u8]) -> Result<Statement<'_>, Operand
 // A statement that begins with a token, where so many bytes of the line are left.
 fn named<'a>(token: &Token<'a>, left: usize) -> Result<Statement<'a>, OperandFault>
     requires { left ≡ left_of (lexeme token.now) }
-    ensures { Gives said result (named (lexeme token.now) (tokens token.now.rest.now)) }
+    ensures { Gives stmt_of result (named (lexeme token.now) (tokens token.now.rest.now)) }
 {
     if token.kind == TokenKind::Name {
         match Head::of(token.text) {
@@ -76,7 +77,7 @@ fn named<'a>(token: &Token<'a>, left: usize) -> Result<Statement<'a>, OperandFau
 
 // At most one statement.
 fn statement_of(line: &[u8]) -> Result<Statement<'_>, OperandFault>
-    ensures { Gives said result (statement_of (tokens line.now)) }
+    ensures { Gives stmt_of result (statement_of (tokens line.now)) }
 {
     match next(line) {
         Step::End(_) => Ok(Statement::Empty),
@@ -96,9 +97,9 @@ fn is_labelled(token: &Token<'_>) -> bool
 }
 
 // The item of a line behind its label.
-fn behind_label<'a>(token: &Token<'a>, left: usize) -> Result<Item<'a>, OperandFault>
+fn item_after_label<'a>(token: &Token<'a>, left: usize) -> Result<Item<'a>, OperandFault>
     requires { left ≡ left_of (lexeme token.now) }
-    ensures { Gives item_said result (behind_label (lexeme token.now)) }
+    ensures { Gives line_stmt_of result (line_after_label (lexeme token.now)) }
 {
     if !is_label(token.text) {
         return Err(OperandFault {
@@ -118,7 +119,7 @@ fn behind_label<'a>(token: &Token<'a>, left: usize) -> Result<Item<'a>, OperandF
 // The item of a line without a label, which begins with a token.
 fn unlabelled<'a>(token: &Token<'a>, left: usize) -> Result<Item<'a>, OperandFault>
     requires { left ≡ left_of (lexeme token.now) }
-    ensures { Gives item_said result
+    ensures { Gives line_stmt_of result
         (labelled None (named (lexeme token.now) (tokens token.now.rest.now))) }
 {
     match named(token, left) {
@@ -132,13 +133,13 @@ fn unlabelled<'a>(token: &Token<'a>, left: usize) -> Result<Item<'a>, OperandFau
 
 // An optional label, and then at most one statement.
 fn line_of(line: &[u8]) -> Result<Item<'_>, OperandFault>
-    ensures { Gives item_said result (line_of (tokens line.now)) }
+    ensures { Gives line_stmt_of result (line_of (tokens line.now)) }
 {
     match next(line) {
         Step::Token(token) => {
             let left = token.text.len() + token.rest.len();
             if is_labelled(&token) {
-                behind_label(&token, left)
+                item_after_label(&token, left)
             } else {
                 unlabelled(&token, left)
             }
@@ -160,7 +161,7 @@ fn line_of(line: &[u8]) -> Result<Item<'_>, OperandFault>
 #[inline(never)]
 pub fn read_line(line: &[u8]) -> Result<Item<'_>, LineFault>
     requires { length line.now ≤ 1024 }
-    ensures value { Gives item_said result (read line.now) }
+    ensures value { Gives line_stmt_of result (read line.now) }
 {
     match line_of(line) {
         Ok(item) => Ok(item),

@@ -1,7 +1,7 @@
 ghost use Rattle.std.specs.Prelude.{◌≡◌, IfSome};
 ghost use Rattle.alpha_operands.specs.Ranges.{IsNumber};
 ghost use Rattle.alpha_operands.specs.Operands.{slots};
-ghost use Rattle.alpha_text.specs.Statements.{said, said_by};
+ghost use Rattle.alpha_text.specs.Statements.{stmt_of, stmt_by};
 
 use crate::directive::of_directive;
 use crate::head::Head;
@@ -74,13 +74,13 @@ pub enum Statement<'a> {
 /// What a statement of this name says with these operands, which stand in `list`.
 pub(crate) fn of_head<'a>(head: Head, o: &Operands<'a>, list: &'a [u8]) -> Statement<'a>
     requires { IfSome o.now.number IsNumber }
-    ensures { said result ≡ said_by head (slots o.now) list.now }
+    ensures { stmt_of result ≡ stmt_by head (slots o.now) list.now }
 {
     match head {
         Head::Insn(mnemonic) => of_insn(mnemonic, o),
-        Head::Own(own) => match of_pseudo(own, o) {
+        Head::PseudoOp(pseudo_op) => match of_pseudo(pseudo_op, o) {
             Some(insn) => Statement::Code(insn),
-            None => of_directive(own, o, list),
+            None => of_directive(pseudo_op, o, list),
         },
     }
 }

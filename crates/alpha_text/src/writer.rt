@@ -1,5 +1,6 @@
 ghost use Rattle.std.specs.Prelude.{◌≡◌, ◌+◌, ◌≤◌, [], ◌++◌, length};
-ghost use Rattle.alpha_text.specs.Canon.{spell, spelled, signed_words, distance_words, source_word, first_words, base_words, source_words, words_of, behind_name, canon};
+ghost use Rattle.alpha_text.specs.Canon.{spell, spelled, signed_words, distance_words, source_word, first_words};
+ghost use Rattle.alpha_text.specs.Canon.{base_words, source_words, words_of, behind_name, canon};
 ghost use Rattle.alpha_text.specs.Canon as words;
 
 use alpha_io::Line;

@@ -1,8 +1,8 @@
 pub mod Choices
-pub mod Cutting
+pub mod SplitLines
 pub mod Digits
 pub mod Order
-pub mod Reading
-pub mod Strings
+pub mod TokenSuffixes
+pub mod StringLengths
 pub mod Texts
 pub mod Returns

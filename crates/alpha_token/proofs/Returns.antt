@@ -1,5 +1,6 @@
 -- A carriage return behind a line begins no token: the line's tokens are the same, or a bad one stands there.
-use Rattle.std.proofs.Common.{◌≡◌, ◌⊎◌, ℕ, List, [], ◌∷◌, ◌++◌, ◌≤◌, ◌<◌, ◌+◌, Bool, true, false, cond, eqb, ◌&&◌, Option, None, Some, drop, take, length, refl, ◌∙◌, ap, inl, inr, arith}
+use Rattle.std.proofs.Common.{◌≡◌, ◌⊎◌, ℕ, List, [], ◌∷◌, ◌++◌, ◌≤◌, ◌<◌, ◌+◌, Bool, true, false, cond, eqb, ◌&&◌}
+use Rattle.std.proofs.Common.{Option, None, Some, drop, take, length, refl, ◌∙◌, ap, inl, inr, arith}
 use Prim.Native.Nat.{zero, suc}
 use Rattle.std.specs.List.{prefix_len}
 use Rattle.std.specs.Option.{option_map}
@@ -13,71 +14,83 @@ use Rattle.alpha_token.specs.Bytes.{is_blank, begins_name, goes_on_name}
 use Rattle.alpha_token.specs.Numeral.{hex_len, number_more}
 use Rattle.alpha_token.specs.Quoted.{byte_at, quoted_len}
 use Rattle.alpha_token.specs.Tokens.{Lexeme, Tokens, End, Bad, Next, mark, token_at, put_before, tokens_after, tokens}
-use Rattle.alpha_token.proofs.Strings.{mapped}
-use Rattle.alpha_token.proofs.Choices.{choose, choose_both}
-use Rattle.alpha_token.proofs.Texts.{opened}
-use Rattle.alpha_token.proofs.Cutting.{Within, SameWithin, found-within, any-within, mark-within, token-same}
+use Rattle.alpha_token.proofs.StringLengths.{option_map-some}
+use Rattle.alpha_token.proofs.Choices.{cond-either, choose_both}
+use Rattle.alpha_token.proofs.Texts.{quoted_len-open}
+use Rattle.alpha_token.proofs.SplitLines.{Within, SameWithin, found-within, any-within, mark-within, token-same}
 
-abbrev pub returned : List ℕ → List ℕ
-returned a = a ++ 13 ∷ []
+abbrev pub with_return : List ℕ → List ℕ
+with_return a = a ++ 13 ∷ []
 
 -- a run of bytes ends before it
-pub prefix-return : (p : ℕ → Bool) (a : List ℕ) → p 13 ≡ false → prefix_len p (returned a) ≡ prefix_len p a
+pub prefix-return : (p : ℕ → Bool) (a : List ℕ) → p 13 ≡ false → prefix_len p (with_return a) ≡ prefix_len p a
 prefix-return p [] h = rw h refl
 prefix-return p (b ∷ a) h = ap (λ n. cond (p b) (1 + n) 0) (prefix-return p a h)
 
-prefix-inside : (p : ℕ → Bool) (a : List ℕ) → p 13 ≡ false → prefix_len p (returned a) ≤ length a
+prefix-inside : (p : ℕ → Bool) (a : List ℕ) → p 13 ≡ false → prefix_len p (with_return a) ≤ length a
 prefix-inside p a h = omega (arith, prefix-return p a h, prefix_len-le-length p a)
 
-hex-inside : (b : ℕ) (a : List ℕ) → (hex_len b (returned a) ≡ 0) ⊎ (hex_len b (returned a) < length a)
-hex-inside b [] = inl (choose (λ r. r ≡ 0) (eqb b 48 && eqb 13 120) 0 0 (λ e. refl) (λ e. refl))
+hex-inside : (b : ℕ) (a : List ℕ) → (hex_len b (with_return a) ≡ 0) ⊎ (hex_len b (with_return a) < length a)
+hex-inside b [] = inl (cond-either (λ r. r ≡ 0) (eqb b 48 && eqb 13 120) 0 0 (λ e. refl) (λ e. refl))
 hex-inside b (x ∷ a) =
-    choose (λ r. (r ≡ 0) ⊎ (r < length (x ∷ a))) (eqb b 48 && eqb x 120) _ _ (λ e. inr (let l = prefix-inside is_ascii_hexdigit a refl in omega arith)) (λ e. inl refl)
+    cond-either (λ r. (r ≡ 0) ⊎ (r < length (x ∷ a))) (eqb b 48 && eqb x 120) _ _
+    (λ e. inr (let l = prefix-inside is_ascii_hexdigit a refl in omega arith)) (λ e. inl refl)
 
-number-inside : (b : ℕ) (a : List ℕ) → number_more b (returned a) ≤ length a
+number-inside : (b : ℕ) (a : List ℕ) → number_more b (with_return a) ≤ length a
 number-inside b a =
-    choose (λ r. r ≤ length a) (eqb (hex_len b (returned a)) 0) _ _ (λ e. prefix-inside is_ascii_digit a refl) (λ e.
+    cond-either (λ r. r ≤ length a) (eqb (hex_len b (with_return a)) 0) _ _ (λ e. prefix-inside is_ascii_digit a refl)
+    (λ e.
     elim (hex-inside b a) [
       | inl z ↦ absurd (grind (arith, nat_tests))
       | inr l ↦ omega arith
     ])
 
-quoted-inside : (skip : ℕ) (a : List ℕ) (n : ℕ) → quoted_len skip (returned a) ≡ Some n → n < length a
+quoted-inside : (skip : ℕ) (a : List ℕ) (n : ℕ) → quoted_len skip (with_return a) ≡ Some n → n < length a
 unfolding byte_at
 quoted-inside zero [] n h = cc
 quoted-inside (suc skip) [] n h = cc
 quoted-inside (suc skip) (b ∷ a) n h =
-    let (m, e, same) = mapped suc (quoted_len skip (returned a)) n h in
+    let (m, e, same) = option_map-some suc (quoted_len skip (with_return a)) n h in
     let l : m < length a = quoted-inside skip a m e in
     omega arith
 quoted-inside zero (b ∷ a) n h =
     let either : (x : Bool) → eqb b 34 ≡ x → n < length (b ∷ a) =
     λ x. elim x as (λ y. eqb b 34 ≡ y → n < length (b ∷ a)) [
       | true ↦ λ e. let k : Some 0 ≡ Some n = rw e at h in let z : 0 ≡ n = cc in omega arith
-      | false ↦ λ e. let (v, at, (m, f, same)) = opened b (returned a) n e h in let l : m < length a = quoted-inside v.1 a m f in omega arith
+      | false ↦ λ e. let (v, at, (m, f, same)) = quoted_len-open b (with_return a) n e h in
+          let l : m < length a = quoted-inside v.1 a m f in
+          omega arith
     ] in
     either (eqb b 34) refl
 
-text-inside : (a : List ℕ) → Within (length a) (option_map (λ n. (Text, suc n)) (quoted_len 0 (returned a)))
+text-inside : (a : List ℕ) → Within (length a) (option_map (λ n. (Text, suc n)) (quoted_len 0 (with_return a)))
 text-inside a v h =
-    let (n, f, same) = mapped (λ (n : ℕ). (Text, suc n)) (quoted_len 0 (returned a)) v h in
+    let (n, f, same) = option_map-some (λ (n : ℕ). (Text, suc n)) (quoted_len 0 (with_return a)) v h in
     let e : suc n ≡ v.1 = ap (λ (w : TokenKind × ℕ). w.1) same in
     let l : n < length a = quoted-inside 0 a n f in
     omega arith
 
 -- so does a token
-token-inside : (b : ℕ) (a : List ℕ) → Within (length a) (token_at b (returned a))
+token-inside : (b : ℕ) (a : List ℕ) → Within (length a) (token_at b (with_return a))
 unfolding token_at
 token-inside b a =
-    choose (Within (length a)) (begins_name b) _ _ (λ e. found-within (length a) (prefix_len goes_on_name (returned a)) _ (prefix-inside goes_on_name a refl)) (λ e.
-    choose (Within (length a)) (is_ascii_digit b) _ _ (λ e. found-within (length a) (number_more b (returned a)) Number (number-inside b a)) (λ e.
-    choose (Within (length a)) (eqb b 36) _ _ (λ e. any-within (length a) (prefix_len is_ascii_alphanumeric (returned a)) Register (prefix-inside is_ascii_alphanumeric a refl)) (λ e.
-    choose (Within (length a)) (eqb b 37) _ _ (λ e. any-within (length a) (prefix_len is_ascii_alphabetic (returned a)) Operator (prefix-inside is_ascii_alphabetic a refl)) (λ e.
-    choose (Within (length a)) (eqb b 34) _ _ (λ e. text-inside a) (λ e. mark-within (length a) (mark b))))))
+    cond-either (Within (length a)) (begins_name b) _ _
+    (λ e. found-within (length a) (prefix_len goes_on_name (with_return a)) _ (prefix-inside goes_on_name a refl)) (λ e.
+    cond-either (Within (length a)) (is_ascii_digit b) _ _
+    (λ e. found-within (length a) (number_more b (with_return a)) Number (number-inside b a)) (λ e.
+    cond-either (Within (length a)) (eqb b 36) _ _
+    (λ e. any-within (length a) (prefix_len is_ascii_alphanumeric (with_return a)) Register
+    (prefix-inside is_ascii_alphanumeric a refl))
+    (λ e.
+    cond-either (Within (length a)) (eqb b 37) _ _
+    (λ e. any-within (length a) (prefix_len is_ascii_alphabetic (with_return a)) Operator
+    (prefix-inside is_ascii_alphabetic a refl))
+    (λ e.
+    cond-either (Within (length a)) (eqb b 34) _ _ (λ e. text-inside a) (λ e. mark-within (length a) (mark b))))))
 
 -- a token with the carriage return behind it
-abbrev pub lexeme-returned : Lexeme → Lexeme
-lexeme-returned t = record { kind = t.kind; text = t.text; rest = returned t.rest }
+abbrev pub lexeme-with_return : Lexeme → Lexeme
+lexeme-with_return t = record { kind = t.kind; text = t.text; rest = with_return t.rest }
 
 -- The tokens of a line, and those of the line with the carriage return. Of the latter a bad one says nothing.
 abbrev pub Returned : Tokens → Tokens → Type 0
@@ -89,22 +102,27 @@ Returned (Bad m) (Bad n) = Unit {0}
 Returned (Bad m) (Next t ts) = ⊥
 Returned (Next u us) (End n) = ⊥
 Returned (Next u us) (Bad n) = Unit {0}
-Returned (Next u us) (Next t ts) = (t ≡ lexeme-returned u) × Returned us ts
+Returned (Next u us) (Next t ts) = (t ≡ lexeme-with_return u) × Returned us ts
 
-bad-returned : (ts : Tokens) (n : ℕ) → Returned ts (Bad n)
-bad-returned (End m) n = tt
-bad-returned (Bad m) n = tt
-bad-returned (Next t ts) n = tt
+bad-with_return : (ts : Tokens) (n : ℕ) → Returned ts (Bad n)
+bad-with_return (End m) n = tt
+bad-with_return (Bad m) n = tt
+bad-with_return (Next t ts) n = tt
 
-put-returned : (b : ℕ) (a : List ℕ) (whole cut : Option (TokenKind × ℕ)) → Within (length a) whole → SameWithin (length a) whole cut
-    → ((k : ℕ) → k ≤ length a → Returned (tokens_after k a) (tokens_after k (returned a)))
-    → Returned (put_before (b ∷ a) cut (λ more. tokens_after more a) b a) (put_before (b ∷ returned a) whole (λ more. tokens_after more (returned a)) b (returned a))
-put-returned b a None cut within same behind = bad-returned (put_before (b ∷ a) cut (λ more. tokens_after more a) b a) (length (b ∷ returned a))
-put-returned b a (Some v) cut within same behind =
+put-with_return : (b : ℕ) (a : List ℕ) (whole cut : Option (TokenKind × ℕ)) → Within (length a) whole
+    → SameWithin (length a) whole cut
+    → ((k : ℕ) → k ≤ length a → Returned (tokens_after k a) (tokens_after k (with_return a)))
+    → Returned (put_before (b ∷ a) cut (λ more. tokens_after more a) b a)
+    (put_before (b ∷ with_return a) whole (λ more. tokens_after more (with_return a)) b (with_return a))
+put-with_return b a None cut within same behind =
+    bad-with_return (put_before (b ∷ a) cut (λ more. tokens_after more a) b a) (length (b ∷ with_return a))
+put-with_return b a (Some v) cut within same behind =
     let m : v.1 ≤ length a = within v refl in
     rw (same v refl m) (
-      ap (λ (x : List ℕ). (let t : Lexeme = record { kind = v.0; text = b ∷ x; rest = drop v.1 (returned a) } in t)) (take-append-le v.1 a (13 ∷ []) m)
-          ∙ ap (λ (x : List ℕ). (let t : Lexeme = record { kind = v.0; text = b ∷ take v.1 a; rest = x } in t)) (drop-append-le v.1 a (13 ∷ []) m),
+      ap (λ (x : List ℕ). (let t : Lexeme = record { kind = v.0; text = b ∷ x; rest = drop v.1 (with_return a) } in t))
+          (take-append-le v.1 a (13 ∷ []) m)
+          ∙ ap (λ (x : List ℕ). (let t : Lexeme = record { kind = v.0; text = b ∷ take v.1 a; rest = x } in t))
+          (drop-append-le v.1 a (13 ∷ []) m),
       behind v.1 m,
     )
 
@@ -112,15 +130,17 @@ return-bad : tokens_after 0 (13 ∷ []) ≡ Bad 1
 unfolding token_at
 return-bad = refl
 
-after-returned : (skip : ℕ) (a : List ℕ) → skip ≤ length a → Returned (tokens_after skip a) (tokens_after skip (returned a))
-after-returned zero [] l = rw return-bad tt
-after-returned (suc skip) [] l = absurd (omega arith)
-after-returned (suc skip) (b ∷ a) l = after-returned skip a (omega arith)
-after-returned zero (b ∷ a) l =
-    choose_both Returned (is_blank b) _ _ _ _ (after-returned zero a (omega arith)) (
+after-with_return : (skip : ℕ) (a : List ℕ) → skip ≤ length a
+    → Returned (tokens_after skip a) (tokens_after skip (with_return a))
+after-with_return zero [] l = rw return-bad tt
+after-with_return (suc skip) [] l = absurd (omega arith)
+after-with_return (suc skip) (b ∷ a) l = after-with_return skip a (omega arith)
+after-with_return zero (b ∷ a) l =
+    choose_both Returned (is_blank b) _ _ _ _ (after-with_return zero a (omega arith)) (
     choose_both Returned (eqb b 35) _ _ _ _ tt (
-    put-returned b a (token_at b (returned a)) (token_at b a) (token-inside b a) (token-same b a (13 ∷ [])) (λ k m. after-returned k a m)))
+    put-with_return b a (token_at b (with_return a)) (token_at b a) (token-inside b a) (token-same b a (13 ∷ []))
+    (λ k m. after-with_return k a m)))
 
-pub tokens-returned : (a : List ℕ) → Returned (tokens a) (tokens (returned a))
+pub tokens-with_return : (a : List ℕ) → Returned (tokens a) (tokens (with_return a))
 unfolding tokens
-tokens-returned a = after-returned 0 a (omega arith)
+tokens-with_return a = after-with_return 0 a (omega arith)

@@ -1,5 +1,6 @@
 -- What stands between the quotes of a string.
-use Rattle.std.specs.Prelude.{◌≡◌, ℕ, List, [], ◌∷◌, ◌++◌, ◌==◌, ◌&&◌, ◌+◌, ◌*◌, Bool, false, not, Option, None, Some, nat_le, drop, if◌then◌else◌}
+use Rattle.std.specs.Prelude.{◌≡◌, ℕ, List, [], ◌∷◌, ◌++◌, ◌==◌, ◌&&◌, ◌+◌, ◌*◌, Bool, false, not, Option, None, Some}
+use Rattle.std.specs.Prelude.{nat_le, drop, if◌then◌else◌}
 use Prim.Native.Nat.{zero, suc}
 use Rattle.std.specs.Option.{option_map, option_and_then}
 use Rattle.std.specs.Char.{is_ascii_hexdigit, digit_value}
@@ -18,7 +19,8 @@ escaped e =
 abbrev pub hex_pair : List ℕ → Option (ℕ × ℕ)
 hex_pair [] = None
 hex_pair (a ∷ []) = None
-hex_pair (a ∷ b ∷ s) = if is_ascii_hexdigit a && is_ascii_hexdigit b then Some (16 * digit_value a + digit_value b, 3) else None
+hex_pair (a ∷ b ∷ s) =
+    if is_ascii_hexdigit a && is_ascii_hexdigit b then Some (16 * digit_value a + digit_value b, 3) else None
 
 -- the same for what may follow a backslash: `n`, `t`, `\`, `"`, `0`, or `x` and two hexadecimal digits
 abbrev pub escape : List ℕ → Option (ℕ × ℕ)
@@ -43,7 +45,8 @@ is_closed (b ∷ s) = b == 34
 abbrev pub quoted_len : ℕ → List ℕ → Option ℕ
 quoted_len skip [] = None
 quoted_len (suc skip) (b ∷ s) = option_map suc (quoted_len skip s)
-quoted_len zero (b ∷ s) = if b == 34 then Some 0 else option_and_then (λ v. option_map suc (quoted_len v.1 s)) (byte_at (b ∷ s))
+quoted_len zero (b ∷ s) =
+    if b == 34 then Some 0 else option_and_then (λ v. option_map suc (quoted_len v.1 s)) (byte_at (b ∷ s))
 
 -- A text that is read to its end: it gives these bytes one behind the other, and nothing is left.
 abbrev pub IsTextOf : List ℕ → List ℕ → Type 0

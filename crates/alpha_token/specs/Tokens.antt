@@ -1,11 +1,13 @@
 -- The tokens of a line of source.
-use Rattle.std.specs.Prelude.{◌≡◌, ℕ, List, [], ◌∷◌, ◌==◌, ◌&&◌, ◌+◌, ◌<◌, ◌++◌, Option, None, Some, length, take, drop, ⊤, if◌then◌else◌}
+use Rattle.std.specs.Prelude.{◌≡◌, ℕ, List, [], ◌∷◌, ◌==◌, ◌&&◌, ◌+◌, ◌<◌, ◌++◌, Option, None, Some, length, take, drop}
+use Rattle.std.specs.Prelude.{⊤, if◌then◌else◌}
 use Prim.Native.Nat.{zero, suc}
 use Rattle.std.specs.List.{prefix_len}
 use Rattle.std.specs.Option.{option_map}
 use Rattle.std.specs.Char.{is_ascii_alphabetic, is_ascii_alphanumeric, is_ascii_digit}
 use Rattle.alpha_token.specs.declared.token.TokenKind.{TokenKind}
-use Rattle.alpha_token.specs.declared.token.TokenKind.TheVariants.{Name, Dot, Register, Number, Operator, Text, Comma, Open, Close, Colon, Plus, Minus}
+use Rattle.alpha_token.specs.declared.token.TokenKind.TheVariants.{Name, Dot, Register, Number, Operator, Text, Comma}
+use Rattle.alpha_token.specs.declared.token.TokenKind.TheVariants.{Open, Close, Colon, Plus, Minus}
 use Rattle.alpha_token.specs.declared.token.Token.{Token}
 use Rattle.alpha_token.specs.declared.token.Step.{Step}
 use Rattle.alpha_token.specs.declared.token.Step.TheVariants as steps
@@ -41,7 +43,8 @@ if_any kind more = if more == 0 then None else Some (kind, more)
 -- the tokens of one byte
 abbrev pub mark : ℕ → Option TokenKind
 mark b =
-    if b == 44 then Some Comma else if b == 40 then Some Open else if b == 41 then Some Close else if b == 58 then Some Colon
+    if b == 44 then Some Comma else if b == 40 then Some Open else if b == 41 then Some Close else if b == 58
+    then Some Colon
     else if b == 43 then Some Plus else if b == 45 then Some Minus else None
 
 -- the longest token that the byte b begins before s: its kind, and how many further bytes it has
@@ -56,7 +59,8 @@ token_at b s =
 
 abbrev pub put_before : List ℕ → Option (TokenKind × ℕ) → (ℕ → Tokens) → ℕ → List ℕ → Tokens
 put_before line None more b s = Bad (length line)
-put_before line (Some found) more b s = Next (record { kind = found.0; text = b ∷ take found.1 s; rest = drop found.1 s }) (more found.1)
+put_before line (Some found) more b s =
+    Next (record { kind = found.0; text = b ∷ take found.1 s; rest = drop found.1 s }) (more found.1)
 
 -- the tokens of a line once `skip` bytes are passed over; blanks may stand between tokens, and `#` begins a comment
 abbrev pub tokens_after : ℕ → List ℕ → Tokens
@@ -83,4 +87,5 @@ Reads line (steps.Token t) = tokens line ≡ Next (lexeme t) (tokens t.rest.now)
 abbrev pub Joins : List ℕ → Step → Type 0
 Joins line (steps.End left) = ⊤
 Joins line (steps.Bad left) = ⊤
-Joins line (steps.Token t) = (length t.rest.now < length line) × ((blanks : List ℕ) × (line ≡ blanks ++ (t.text.now ++ t.rest.now)))
+Joins line (steps.Token t) =
+    (length t.rest.now < length line) × ((blanks : List ℕ) × (line ≡ blanks ++ (t.text.now ++ t.rest.now)))

@@ -124,7 +124,7 @@ pub(crate) fn front(s: &[u8], n: usize) -> &[u8]
 
 // The bytes behind the first n.
 #[inline(always)]
-pub(crate) fn behind(s: &[u8], n: usize) -> &[u8]
+pub(crate) fn bytes_from(s: &[u8], n: usize) -> &[u8]
     requires { n ≤ length s.now }
     ensures value { result.now ≡ drop n s.now }
     ensures size { length result.now ≡ length s.now - n }

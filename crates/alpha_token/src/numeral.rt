@@ -3,7 +3,7 @@ ghost use Rattle.std.specs.Char.{digit_value};
 ghost use Rattle.std.specs.Str.Parse.{digits_value};
 ghost use Rattle.alpha_token.specs.Numeral.{hex_len, number_more, number_value};
 
-use crate::bytes::{behind, digits_len, hex_digits_len};
+use crate::bytes::{bytes_from, digits_len, hex_digits_len};
 
 // How many hexadecimal digits there are behind `0x`, where `first` is the byte before `rest`.
 fn hex_len(first: u8, rest: &[u8]) -> usize
@@ -74,7 +74,7 @@ pub fn number(text: &[u8]) -> Option<u64>
             if hex_len(*first, rest) == 0 {
                 digits_value(10, text)
             } else {
-                digits_value(16, behind(rest, 1))
+                digits_value(16, bytes_from(rest, 1))
             }
         }
     }

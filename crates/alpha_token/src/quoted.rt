@@ -1,8 +1,9 @@
 ghost use Rattle.std.specs.Prelude.{◌≡◌, ◌≤◌, ◌<◌, ◌+◌, length, IfSome};
 ghost use Rattle.std.specs.Option.{option_map};
-ghost use Rattle.alpha_token.specs.Quoted.{is_printable, escaped, hex_pair, escape, byte_at, first_byte, is_closed, quoted_len};
+ghost use Rattle.alpha_token.specs.Quoted.{is_printable, escaped, hex_pair, escape, byte_at, first_byte, is_closed};
+ghost use Rattle.alpha_token.specs.Quoted.{quoted_len};
 
-use crate::bytes::behind;
+use crate::bytes::bytes_from;
 use crate::numeral::digit_value;
 
 fn is_printable(b: u8) -> bool
@@ -72,7 +73,7 @@ pub fn next_byte(text: &[u8]) -> Option<(u8, &[u8])>
     ensures shorter { IfSome result (λ v. length v.1.now < length text.now) }
 {
     let (value, more) = byte_at(text)?;
-    Some((value, behind(text, 1 + more)))
+    Some((value, bytes_from(text, 1 + more)))
 }
 
 // Whether the closing quote stands at the front.

@@ -8,7 +8,7 @@ ghost use Rattle.alpha_token.specs.declared.token.TokenKind.TheVariants.{Text};
 ghost use Rattle.alpha_token.specs.Tokens.{token_at, name_kind, if_any, Reads, Joins};
 
 use crate::bytes::{
-    alphanumeric_len, begins_name, behind, blanks_len, front, letters_len, name_len,
+    alphanumeric_len, begins_name, blanks_len, bytes_from, front, letters_len, name_len,
 };
 use crate::numeral::number_more;
 use crate::quoted::quoted_len;
@@ -130,13 +130,13 @@ fn next_behind_blanks(line: &[u8]) -> Step<'_>
     if *first == b'#' {
         return Step::End(line.len());
     }
-    let rest = behind(line, 1);
+    let rest = bytes_from(line, 1);
     match token_at(*first, rest) {
         None => Step::Bad(line.len()),
         Some((kind, more)) => Step::Token(Token {
             kind,
             text: front(line, 1 + more),
-            rest: behind(rest, more),
+            rest: bytes_from(rest, more),
         }),
     }
 }
@@ -146,7 +146,7 @@ pub fn without_blanks(line: &[u8]) -> &[u8]
     ensures value { result.now ≡ drop (prefix_len is_blank line.now) line.now }
     ensures size { length result.now ≤ length line.now }
 {
-    behind(line, blanks_len(line))
+    bytes_from(line, blanks_len(line))
 }
 
 /// What stands at the front of a line, behind blanks.
@@ -155,5 +155,5 @@ pub fn next(line: &[u8]) -> Step<'_>
     ensures reads { Reads line.now result }
     ensures joins { Joins line.now result }
 {
-    next_behind_blanks(behind(line, blanks_len(line)))
+    next_behind_blanks(bytes_from(line, blanks_len(line)))
 }

@@ -1,6 +1,8 @@
 //! Modules as lists of symbols and relocations, and what no module links to.
 
-use alpha_link::{LinkFault, RelocationKind, SymbolSection, Use, link, make_module, read_module};
+use alpha_link::{
+    LinkFault, RelocField, RelocationKind, SymbolSection, link, make_module, read_module,
+};
 use std::alloc::AllocError;
 use std::test::Fail;
 
@@ -26,7 +28,7 @@ fn a_module_lists_its_symbols_and_relocations(rt: HostRuntime) -> Result<(), Fai
     if let [branch] = module.relocations() {
         assert_eq!(rt;
             (branch.kind, branch.symbol),
-            (RelocationKind::Insn(Use::Branch), 1)
+            (RelocationKind::Insn(RelocField::Branch), 1)
         );
         assert_eq!(rt; (branch.offset, branch.addend), (0, 0));
     }

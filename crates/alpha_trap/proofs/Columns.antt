@@ -5,7 +5,7 @@ use Rattle.alpha_table.specs.declared.columns.InsnKind.{InsnKind}
 use Rattle.alpha_table.specs.declared.columns.InsnKind.TheVariants as kinds
 use Rattle.alpha_table.specs.Class.{Class, operate, trigger, address, barrier}
 use Rattle.alpha_table.specs.Code.{class_kind, kind, trap_rc}
-use Rattle.alpha_trap.specs.Scan.{runs_on, is_straight, spoils}
+use Rattle.alpha_trap.specs.Scan.{runs_on, is_straight, is_destination}
 
 -- a trigger is a word with a destination that may trap
 
@@ -34,9 +34,10 @@ kind_straight kinds.Store e = (λ f. cc, λ f. cc)
 kind_straight kinds.Locked e = (λ f. cc, λ f. cc)
 kind_straight kinds.Turn e = cc
 
-pub straight_on : (c : Option Class) → is_straight c ≡ true → (kind c ≢ Some kinds.Barrier) × (kind c ≢ Some kinds.Turn)
-straight_on None e = (λ f. cc, λ f. cc)
-straight_on (Some c) e = kind_straight (class_kind c) e
+pub is_straight-kind : (c : Option Class) → is_straight c ≡ true
+    → (kind c ≢ Some kinds.Barrier) × (kind c ≢ Some kinds.Turn)
+is_straight-kind None e = (λ f. cc, λ f. cc)
+is_straight-kind (Some c) e = kind_straight (class_kind c) e
 
 kind_runs_on : (k : InsnKind) → Some k ≢ Some kinds.Barrier → Some k ≢ Some kinds.Turn → runs_on k ≡ true
 kind_runs_on kinds.Plain b t = refl
@@ -61,8 +62,8 @@ one_named : (o : Option ℕ) (r : ℕ) → o ≡ Some r → option_map_or (λ rc
 one_named None r e = cc
 one_named (Some rc) r e = eq-eqb rc r (cc)
 
-pub spoils_rc : (c : Option Class) (r : ℕ) → spoils c r ≡ true → trap_rc c ≡ Some r
-spoils_rc c r e = names_one (trap_rc c) r e
+pub is_destination-trap_rc : (c : Option Class) (r : ℕ) → is_destination c r ≡ true → trap_rc c ≡ Some r
+is_destination-trap_rc c r e = names_one (trap_rc c) r e
 
-pub rc_spoils : (c : Option Class) (r : ℕ) → trap_rc c ≡ Some r → spoils c r ≡ true
-rc_spoils c r e = one_named (trap_rc c) r e
+pub trap_rc-is_destination : (c : Option Class) (r : ℕ) → trap_rc c ≡ Some r → is_destination c r ≡ true
+trap_rc-is_destination c r e = one_named (trap_rc c) r e

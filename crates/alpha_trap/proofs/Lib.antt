@@ -1,5 +1,5 @@
 pub mod Ranges
 pub mod Columns
-pub mod Scanning
-pub mod Walking
-pub mod Handling
+pub mod ScanRelation
+pub mod ScanSteps
+pub mod HandlerEffect

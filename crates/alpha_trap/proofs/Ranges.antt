@@ -1,21 +1,24 @@
 -- Tests of the numbers in a range, and the greatest number that passes one.
-use Rattle.std.proofs.Common.{◌≡◌, ◌<◌, ◌≤◌, ◌+◌, ◌⊎◌, ℕ, zero, suc, Bool, true, false, cond, Some, None, refl, sym, ap, subst, ⊎_elim, arith}
+use Rattle.std.proofs.Common.{◌≡◌, ◌<◌, ◌≤◌, ◌+◌, ◌⊎◌, ℕ, zero, suc, Bool, true, false, cond, Some, None, refl, sym, ap}
+use Rattle.std.proofs.Common.{subst, ⊎_elim, arith}
 use Rattle.std.specs.List.{list_all, list_any, range_with_len}
 use Rattle.std.proofs.lemmas.Bool.{cases_eq, and_parts, and_from, or_cases, or_left, or_right}
 use Rattle.alpha_trap.specs.Scan.{greatest_below}
 
 -- every number of a range passes a test
 
-pub all_within : (p : ℕ → Bool) (from n k : ℕ) → list_all p (range_with_len from n) ≡ true → from ≤ k → k < from + n → p k ≡ true
-all_within p from zero k e low high = absurd (omega arith)
-all_within p from (suc n) k e low high =
+pub list_all-range : (p : ℕ → Bool) (from n k : ℕ) → list_all p (range_with_len from n) ≡ true → from ≤ k → k < from + n
+    → p k ≡ true
+list_all-range p from zero k e low high = absurd (omega arith)
+list_all-range p from (suc n) k e low high =
     let q = and_parts (p from) (list_all p (range_with_len (from + 1) n)) e in
     ⊎_elim
     (λ (same : k ≡ from). subst (λ j. p j ≡ true) (sym same) q.0)
-    (λ (apart : k ≡ from → ⊥). all_within p (from + 1) n k q.1 (omega arith) (omega arith))
+    (λ (apart : k ≡ from → ⊥). list_all-range p (from + 1) n k q.1 (omega arith) (omega arith))
     (cases_eq k from)
 
-pub within_all : (p : ℕ → Bool) (from n : ℕ) → ((k : ℕ) → from ≤ k → k < from + n → p k ≡ true) → list_all p (range_with_len from n) ≡ true
+pub within_all : (p : ℕ → Bool) (from n : ℕ) → ((k : ℕ) → from ≤ k → k < from + n → p k ≡ true)
+    → list_all p (range_with_len from n) ≡ true
 within_all p from zero h = refl
 within_all p from (suc n) h =
     and_from (p from) (list_all p (range_with_len (from + 1) n)) (h from (omega arith) (omega arith))
@@ -23,7 +26,8 @@ within_all p from (suc n) h =
 
 -- some number of a range passes a test
 
-pub any_within : (p : ℕ → Bool) (from n : ℕ) → list_any p (range_with_len from n) ≡ true → (k : ℕ) × (from ≤ k) × (k < from + n) × (p k ≡ true)
+pub any_within : (p : ℕ → Bool) (from n : ℕ) → list_any p (range_with_len from n) ≡ true
+    → (k : ℕ) × (from ≤ k) × (k < from + n) × (p k ≡ true)
 any_within p from zero e = cc
 any_within p from (suc n) e =
     ⊎_elim
@@ -34,17 +38,20 @@ any_within p from (suc n) e =
     (w.0, omega arith, omega arith, w.3))
     (or_cases (p from) (list_any p (range_with_len (from + 1) n)) e)
 
-pub within_any : (p : ℕ → Bool) (from n k : ℕ) → from ≤ k → k < from + n → p k ≡ true → list_any p (range_with_len from n) ≡ true
+pub within_any : (p : ℕ → Bool) (from n k : ℕ) → from ≤ k → k < from + n → p k ≡ true
+    → list_any p (range_with_len from n) ≡ true
 within_any p from zero k low high e = absurd (omega arith)
 within_any p from (suc n) k low high e =
     ⊎_elim
     (λ (same : k ≡ from). or_left (p from) (list_any p (range_with_len (from + 1) n)) (subst (λ j. p j ≡ true) same e))
-    (λ (apart : k ≡ from → ⊥). or_right (p from) (list_any p (range_with_len (from + 1) n)) (within_any p (from + 1) n k (omega arith) (omega arith) e))
+    (λ (apart : k ≡ from → ⊥). or_right (p from) (list_any p (range_with_len (from + 1) n))
+    (within_any p (from + 1) n k (omega arith) (omega arith) e))
     (cases_eq k from)
 
 -- the greatest number below a limit that passes a test
 
-pub greatest_below-some : (p : ℕ → Bool) (n k : ℕ) → k < n → p k ≡ true → ((j : ℕ) → k < j → j < n → p j ≡ false) → greatest_below p n ≡ Some k
+pub greatest_below-some : (p : ℕ → Bool) (n k : ℕ) → k < n → p k ≡ true → ((j : ℕ) → k < j → j < n → p j ≡ false)
+    → greatest_below p n ≡ Some k
 unfolding greatest_below
 greatest_below-some p zero k below here above = absurd (omega arith)
 greatest_below-some p (suc n) k below here above =
@@ -57,7 +64,8 @@ greatest_below-some p (suc n) k below here above =
 pub greatest_below-none : (p : ℕ → Bool) (n : ℕ) → ((j : ℕ) → j < n → p j ≡ false) → greatest_below p n ≡ None
 unfolding greatest_below
 greatest_below-none p zero none = refl
-greatest_below-none p (suc n) none = rw (none n (omega arith)) (greatest_below-none p n (λ j high. none j (omega arith)))
+greatest_below-none p (suc n) none =
+    rw (none n (omega arith)) (greatest_below-none p n (λ j high. none j (omega arith)))
 
 -- what it is, where there is one
 pub record IsGreatest (p : ℕ → Bool) (n k : ℕ) : Type 0 where
@@ -70,7 +78,8 @@ unfolding greatest_below
 greatest_below-is p zero k e = cc
 greatest_below-is p (suc n) k e = by (greatest_below-is p n k) (p n) refl e
   where
-    by : (greatest_below p n ≡ Some k → IsGreatest p n k) → (b : Bool) → p n ≡ b → cond b (Some n) (greatest_below p n) ≡ Some k
+    by : (greatest_below p n ≡ Some k → IsGreatest p n k) → (b : Bool) → p n ≡ b
+        → cond b (Some n) (greatest_below p n) ≡ Some k
         → IsGreatest p (suc n) k
     by lower true t f =
         let same : n ≡ k = cc in

@@ -8,6 +8,6 @@ use Rattle.alpha_values.specs.TrapOp.{completed_of}
 
 -- a trigger's destination has its completed value
 abbrev pub completed_regs : Completion → Option Class → List ℕ → List ℕ
-completed_regs how (Some (trigger op ra src rc)) regs =
-    put regs rc (completed_of op (reg regs ra) (source_value regs src) how)
-completed_regs how _ regs = regs
+completed_regs completion (Some (trigger op ra src rc)) regs =
+    put regs rc (completed_of op (reg regs ra) (source_value regs src) completion)
+completed_regs completion _ regs = regs

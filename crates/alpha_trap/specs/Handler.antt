@@ -38,17 +38,17 @@ going_on pc regs = record { pc = pc; regs = regs }
 -- A trap of the word at a place: the word is completed and the program goes on behind it, or the program stops at the
 -- word and nothing has changed.
 abbrev pub handled_at : Parts → Completion → List ℕ → ℕ → Handled
-handled_at image how regs at =
-    if stops how then going_on (image.code_base + 4 * at) regs
-    else going_on (image.code_base + 4 * at + 4) (completed_regs how (class_at image.words at) regs)
+handled_at image completion regs at =
+    if stops completion then going_on (image.code_base + 4 * at) regs
+    else going_on (image.code_base + 4 * at + 4) (completed_regs completion (class_at image.words at) regs)
 
 -- what a report at an address with a mask leaves, by the user's registers; none where the trap is lost
 abbrev pub reported : Parts → Completion → ℕ → ℕ → List ℕ → Option Handled
-reported image how pc mask regs = option_map (handled_at image how regs) (scan image pc mask)
+reported image completion pc mask regs = option_map (handled_at image completion regs) (scan image pc mask)
 
 -- what the handler leaves, by the kernel and the live registers
 abbrev pub handled : Parts → Completion → KernelState → List ℕ → Option Handled
-handled image how kernel live = reported image how kernel.frame.pc (mask_in live) (user_regs kernel live)
+handled image completion kernel live = reported image completion kernel.frame.pc (mask_in live) (user_regs kernel live)
 
 -- the kernel after a return: in user mode, its frame that of a trap at this PC with these registers
 abbrev pub kernel_after : KernelState → Handled → KernelState

@@ -1,6 +1,7 @@
 -- The scan: from the address where a late trap was reported, and the registers that it may have spoilt, back to the
 -- instruction that made it.
-use Rattle.std.specs.Prelude.{◌+◌, ◌-◌, ◌*◌, ℕ, zero, suc, Bool, true, false, ◌==◌, ◌&&◌, ◌||◌, if◌then◌else◌, Option, Some, None, is_some, List, length}
+use Rattle.std.specs.Prelude.{◌+◌, ◌-◌, ◌*◌, ℕ, zero, suc, Bool, true, false, ◌==◌, ◌&&◌, ◌||◌, if◌then◌else◌, Option}
+use Rattle.std.specs.Prelude.{Some, None, is_some, List, length}
 use Rattle.std.specs.Int.{bit_at}
 use Rattle.std.specs.List.{list_all, list_any, range_with_len}
 use Rattle.std.specs.Option.{option_map_or}
@@ -26,8 +27,8 @@ abbrev pub is_straight : Option Class → Bool
 is_straight c = option_map_or runs_on (kind c) true
 
 -- whether the word is a trigger with this destination
-abbrev pub spoils : Option Class → ℕ → Bool
-spoils c r = option_map_or (λ rc. rc == r) (trap_rc c) false
+abbrev pub is_destination : Option Class → ℕ → Bool
+is_destination c r = option_map_or (λ rc. rc == r) (trap_rc c) false
 
 -- whether the word at a place fits a report at another, which is behind it
 unfoldable pub fits : List ℕ → ℕ → ℕ → ℕ → Bool
@@ -35,7 +36,8 @@ fits code mask at to =
     let between = range_with_len at (to - at) in
     is_some (trap_rc (class_at code at))
     && (list_all (λ k. is_straight (class_at code k)) between
-    && list_all (λ r. bit_at mask r == 0 || list_any (λ k. spoils (class_at code k) r) between) (range_with_len 0 31))
+    && list_all (λ r. bit_at mask r == 0 || list_any (λ k. is_destination (class_at code k) r) between)
+    (range_with_len 0 31))
 
 -- the greatest number below a limit that passes a test
 unfoldable pub greatest_below : (ℕ → Bool) → ℕ → Option ℕ

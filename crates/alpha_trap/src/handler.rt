@@ -39,11 +39,11 @@ pub fn handle(
     image: &Image,
     kernel: &mut Kernel,
     regs: &mut RegFile,
-    how: Completion,
+    completion: Completion,
 ) -> Result<u64, Lost>
     requires { kernel.old.user ≡ false }
     ensures ok { IfOk result (λ pc.
-        handled image.now how kernel.old regs.old ≡ Some (going_on pc regs.new)) }
+        handled image.now completion kernel.old regs.old ≡ Some (going_on pc regs.new)) }
     ensures state { IfOk result (λ pc.
         kernel.new ≡ kernel_after kernel.old (going_on pc regs.new)) }
     ensures refused { IfErr result (λ lost. lost ≡ trap_in kernel.old regs.old) }
@@ -53,7 +53,7 @@ pub fn handle(
     let trap = trap_in(kernel, regs);
     match scan_back(image, trap.trap_pc, trap.mask) {
         Some(place) => {
-            let next = end_trap(image, place, kernel, regs, how);
+            let next = end_trap(image, place, kernel, regs, completion);
             kernel.set_pc(next);
             Ok(kernel.rti(regs))
         }
@@ -80,43 +80,43 @@ fn end_trap(
     place: u32,
     kernel: &mut Kernel,
     regs: &mut RegFile,
-    how: Completion,
+    completion: Completion,
 ) -> u64
     requires mode { kernel.old.user ≡ false }
     requires place { place < length image.now.words }
     requires trigger { kind (class_at image.now.words place) ≡ Some kinds.Trigger }
     ensures value { going_on result (user_regs kernel.new regs.new)
-        ≡ handled_at image.now how (user_regs kernel.old regs.old) place }
+        ≡ handled_at image.now completion (user_regs kernel.old regs.old) place }
     ensures mode { kernel.new.user ≡ false }
     ensures status { kernel.new.frame.ps ≡ kernel.old.frame.ps }
     ensures size { length regs.new ≡ length regs.old }
 {
     let at = image.code_base() + 4 * u64::from(place);
-    if how == Completion::Stop {
+    if completion == Completion::Stop {
         return at;
     }
     match trigger_of(&image.insn_at(place)) {
-        Some(trigger) => complete(&trigger, kernel, regs, how),
+        Some(trigger) => complete(&trigger, kernel, regs, completion),
         None => unreachable!(),
     }
     at + 4
 }
 
 // Completes an instruction from the user's registers, into the user's destination.
-#[tactic(auto, using(crate::proofs::Handling::length_live))]
-fn complete(trigger: &Trigger, kernel: &mut Kernel, regs: &mut RegFile, how: Completion)
+#[tactic(auto, using(crate::proofs::HandlerEffect::length_live))]
+fn complete(trigger: &Trigger, kernel: &mut Kernel, regs: &mut RegFile, completion: Completion)
     requires { kernel.old.user ≡ false }
     ensures user { let user = user_regs kernel.old regs.old in
         let t = trigger.now in
         user_regs kernel.new regs.new
-        ≡ put user t.rc (completed_of t.op (reg user t.ra) (source_value user t.src) how) }
+        ≡ put user t.rc (completed_of t.op (reg user t.ra) (source_value user t.src) completion) }
     ensures mode { kernel.new.user ≡ false }
     ensures status { kernel.new.frame.ps ≡ kernel.old.frame.ps }
     ensures size { length regs.new ≡ length regs.old }
 {
     let a = kernel.user_reg(regs, trigger.ra);
     let b = source_value(&trigger.src, kernel, regs);
-    let value = completed(trigger.op, a, b, how);
+    let value = completed(trigger.op, a, b, completion);
     kernel.set_user_reg(regs, trigger.rc, value);
 }
 

@@ -29,8 +29,8 @@ pub fn laws_of_scans()
 /// Directly after an arithmetic entry the handler leaves what a report at the given address with the
 /// given mask leaves of the registers before the entry.
 pub fn laws_of_reports()
-    ensures { (image : Parts) (how : Completion) (pc mask : ℕ) (regs : List ℕ)
+    ensures { (image : Parts) (completion : Completion) (pc mask : ℕ) (regs : List ℕ)
         → length regs ≡ 32 → mask < 2 ^ 31
-        → handled image how (entered (arith_frame pc regs) regs) (arith_regs regs mask)
-        ≡ reported image how pc mask regs }
+        → handled image completion (entered (arith_frame pc regs) regs) (arith_regs regs mask)
+        ≡ reported image completion pc mask regs }
 {}

@@ -13,10 +13,10 @@
 //!   and [`laws_of_reports`] that entry and handler together make the report of the definition.
 //!
 //! `specs/Scan.antt` says what the scan finds as a function, and `specs/Finds.antt` as a relation;
-//! `specs/Handler.antt` says what the handler leaves, with the registers of `specs/Completed.antt`. `src/scan.rt` and `src/handler.rt` have the calls, `src/trigger.rt` what both
-//! read of an instruction. `proofs/Walking.antt` follows the walk down word by word, `Scanning.antt` ties
-//! the function to the relation, `Ranges.antt` and `Columns.antt` have the tests of places and of words,
-//! `Handling.antt` the handler's frame.
+//! `specs/Handler.antt` says what the handler leaves, with the registers of `specs/Completed.antt`. `src/scan.rt` and
+//! `src/handler.rt` have the calls, `src/trigger.rt` what both read of an instruction. `proofs/ScanSteps.antt` follows
+//! the walk down word by word, `ScanRelation.antt` ties the function to the relation, `Ranges.antt` and `Columns.antt`
+//! have the tests of places and of words, `HandlerEffect.antt` the handler's frame.
 #![tactic(auto)]
 
 mod handler;

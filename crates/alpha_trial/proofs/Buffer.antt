@@ -1,5 +1,6 @@
 -- The eight bytes of a trial's data: they may be written and read, and a write of eight bytes leaves eight.
-use Rattle.std.proofs.Common.{◌≡◌, ◌≤◌, ◌+◌, ◌*◌, ℕ, Bool, true, false, cond, List, [], ◌∷◌, length, None, refl, sym, ap, subst, ◌∙◌, arith, append-nil}
+use Rattle.std.proofs.Common.{◌≡◌, ◌≤◌, ◌+◌, ◌*◌, ℕ, Bool, true, false, cond, List, [], ◌∷◌, length, None, refl, sym}
+use Rattle.std.proofs.Common.{ap, subst, ◌∙◌, arith, append-nil}
 use Rattle.std.specs.Prelude.{nat_le}
 use Rattle.std.specs.List.{flat_map}
 use Rattle.std.proofs.lemmas.Bool.Decides.{nat_tests}
@@ -47,15 +48,17 @@ memory_is : (words : List ℕ) (stack : ℕ) → let p = image_with words stack 
 unfolding start_memory
 memory_is words stack = refl
 
-pub granted : (words : List ℕ) (stack : ℕ) → fault_of (shapes (start_memory (image_with words stack))) Store data_base 8 ≡ None
+pub buffer-fault_of : (words : List ℕ) (stack : ℕ)
+    → fault_of (shapes (start_memory (image_with words stack))) Store data_base 8 ≡ None
 unfolding start_memory fault_of each_within
-granted words stack = refl
+buffer-fault_of words stack = refl
 
 -- the code ends below the data
 below : (size : ℕ) → size ≤ 800000 → nat_le 268435464 (65536 + size) ≡ false
 below size few = grind (arith, nat_tests)
 
-code_away : (words : List ℕ) (stack : ℕ) → length words ≤ 200000 → holds (shape_of (code_block (image_with words stack))) data_base 8 ≡ false
+code_away : (words : List ℕ) (stack : ℕ) → length words ≤ 200000
+    → holds (shape_of (code_block (image_with words stack))) data_base 8 ≡ false
 code_away words stack few =
     let size : length (code_block (image_with words stack)).bytes ≡ 4 * length words =
     ap length (append-nil (flat_map longword words)) ∙ length-flat_map_longword words in
@@ -66,11 +69,13 @@ abbrev stored : ℕ → Block
 stored v = overwritten variables data_base (low_bytes 8 v)
 
 stored_is : (words : List ℕ) (stack v : ℕ) → length words ≤ 200000 → let p = image_with words stack in
-    write_bytes (code_block p ∷ variables ∷ stack_block p ∷ []) data_base (low_bytes 8 v) ≡ code_block p ∷ stored v ∷ stack_block p ∷ []
+    write_bytes (code_block p ∷ variables ∷ stack_block p ∷ []) data_base (low_bytes 8 v)
+    ≡ code_block p ∷ stored v ∷ stack_block p ∷ []
 unfolding write_bytes digits
 stored_is words stack v few =
     let p = image_with words stack in
-    ap (λ (b : Bool). cond b (overwritten (code_block p) data_base (low_bytes 8 v) ∷ variables ∷ stack_block p ∷ []) (code_block p ∷ stored v ∷ stack_block p ∷ []))
+    ap (λ (b : Bool). cond b (overwritten (code_block p) data_base (low_bytes 8 v) ∷ variables ∷ stack_block p ∷ [])
+    (code_block p ∷ stored v ∷ stack_block p ∷ []))
     (code_away words stack few)
 
 eight_stored : (words : List ℕ) (stack v : ℕ) → length words ≤ 200000 → let p = image_with words stack in
@@ -80,11 +85,13 @@ eight_stored words stack v few =
     let p = image_with words stack in
     record {
       readable = or_right (holds (shape_of (code_block p)) data_base 8) true refl;
-      eight = ap (λ (b : Bool). length (cond b (part (code_block p) data_base 8) (part (stored v) data_base 8))) (code_away words stack few);
+      eight =
+          ap (λ (b : Bool). length (cond b (part (code_block p) data_base 8) (part (stored v) data_base 8)))
+          (code_away words stack few);
     }
 
-pub written : (words : List ℕ) (stack v : ℕ) → length words ≤ 200000
+pub buffer_written-HoldsEight : (words : List ℕ) (stack v : ℕ) → length words ≤ 200000
     → HoldsEight (write_bytes (start_memory (image_with words stack)) data_base (low_bytes 8 v))
-written words stack v few =
+buffer_written-HoldsEight words stack v few =
     subst (λ (m : List Block). HoldsEight (write_bytes m data_base (low_bytes 8 v))) (sym (memory_is words stack))
     (subst HoldsEight (sym (stored_is words stack v few)) (eight_stored words stack v few))

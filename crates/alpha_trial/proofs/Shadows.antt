@@ -1,5 +1,6 @@
 -- The program of a trial is accepted: a TRAPB ends the shadows of each block, and no condition holds in them.
-use Rattle.std.proofs.Common.{◌≡◌, ◌≢◌, ◌⊎◌, ◌<◌, ◌≤◌, ◌+◌, ◌++◌, ℕ, zero, suc, pos, true, false, List, [], ◌∷◌, length, Option, None, Some, refl, sym, ap, ◌∙◌, inl, inr, ⊎_elim, arith}
+use Rattle.std.proofs.Common.{◌≡◌, ◌≢◌, ◌⊎◌, ◌<◌, ◌≤◌, ◌+◌, ◌++◌, ℕ, zero, suc, pos, true, false, List, [], ◌∷◌, length}
+use Rattle.std.proofs.Common.{Option, None, Some, refl, sym, ap, ◌∙◌, inl, inr, ⊎_elim, arith}
 use Rattle.std.proofs.lemmas.Bool.{cases_lt}
 use Rattle.rand_pcg.specs.Lcg.{Lcg}
 use Rattle.rand_pcg.specs.Pcg.{pcg32}
@@ -13,12 +14,13 @@ use Rattle.alpha_table.specs.Code.{class_at, kind, trap_rc, Straight}
 use Rattle.alpha_table.specs.Uses.{sets, uses, access}
 use Rattle.alpha_table.specs.Words.{class_in}
 use Rattle.alpha_shadow.specs.declared.broken.Condition.{Condition}
-use Rattle.alpha_shadow.specs.declared.broken.Condition.TheVariants.{ZeroDestination, SourceLost, SameDestination, WildBase, LoadThenStore, Locked, Turn, Open, Long}
+use Rattle.alpha_shadow.specs.declared.broken.Condition.TheVariants.{ZeroDestination, SourceLost, SameDestination}
+use Rattle.alpha_shadow.specs.declared.broken.Condition.TheVariants.{WildBase, LoadThenStore, Locked, Turn, Open, Long}
 use Rattle.alpha_shadow.specs.Code.{kind_at}
 use Rattle.alpha_shadow.specs.Broken.{Holds, IsAccepted}
 use Rattle.alpha_trial.specs.Program.{seeded}
 use Rattle.alpha_trial.specs.Words.{block_words, blocks_words, ending_words, program_words}
-use Rattle.alpha_trial.proofs.Decoding.{class_first, class_second}
+use Rattle.alpha_trial.proofs.DecodedProgram.{class_first, class_second}
 
 -- ---- the shadows of a block
 
@@ -48,8 +50,10 @@ data In (code : List ℕ) (q at : ℕ) : Type 0 where
 within : (code : List ℕ) (q at : ℕ) → Block code q → q + 2 ≤ at → at ≤ q + 5 → In code q at
 within code q at b low high =
     ⊎_elim (λ (l : at < q + 3). let e : at ≡ q + 2 = omega arith in at_two e (ap (class_at code) e ∙ b.two))
-    (λ (l : q + 3 ≤ at). ⊎_elim (λ (m : at < q + 4). let e : at ≡ q + 3 = omega arith in at_three e (ap (class_at code) e ∙ b.three))
-    (λ (m : q + 4 ≤ at). ⊎_elim (λ (n : at < q + 5). let e : at ≡ q + 4 = omega arith in at_four e (ap (class_at code) e ∙ b.four))
+    (λ (l : q + 3 ≤ at).
+    ⊎_elim (λ (m : at < q + 4). let e : at ≡ q + 3 = omega arith in at_three e (ap (class_at code) e ∙ b.three))
+    (λ (m : q + 4 ≤ at).
+    ⊎_elim (λ (n : at < q + 5). let e : at ≡ q + 4 = omega arith in at_four e (ap (class_at code) e ∙ b.four))
     (λ (n : q + 5 ≤ at). let e : at ≡ q + 5 = omega arith in at_five e (ap (class_at code) e ∙ b.five))
     (cases_lt at (q + 5)))
     (cases_lt at (q + 4)))
@@ -58,7 +62,8 @@ within code q at b low high =
 -- a shadow ends at the barrier
 ends : (code : List ℕ) (q t at : ℕ) → Block code q → t ≤ q + 5 → Straight code t at → at ≤ q + 5
 ends code q t at b low straight =
-    ⊎_elim (λ (past : q + 5 < at). absurd ((straight (q + 5) low past).0 (ap kind b.five))) (λ (h : at ≤ q + 5). h) (cases_lt (q + 5) at)
+    ⊎_elim (λ (past : q + 5 < at). absurd ((straight (q + 5) low past).0 (ap kind b.five))) (λ (h : at ≤ q + 5). h)
+    (cases_lt (q + 5) at)
 
 -- no word of the shadows is locked, turns, stores or makes an access
 record Plain (o : Option Class) : Type 0 where
@@ -68,7 +73,8 @@ record Plain (o : Option Class) : Type 0 where
   access : access o ≡ None
   there : o ≢ None
 
-plain_class : (o : Option Class) (c : Class) → o ≡ Some c → kind (Some c) ≢ Some kinds.Locked → kind (Some c) ≢ Some kinds.Turn → kind (Some c) ≢ Some kinds.Store
+plain_class : (o : Option Class) (c : Class) → o ≡ Some c → kind (Some c) ≢ Some kinds.Locked
+    → kind (Some c) ≢ Some kinds.Turn → kind (Some c) ≢ Some kinds.Store
     → access (Some c) ≡ None → Plain o
 plain_class o c e locked turn store none = record {
   locked = λ h. locked (ap kind (sym e) ∙ h);
@@ -108,7 +114,8 @@ unused code q p r (at_five e c) (inr f) = ap (λ o. uses o r) c ∙ ap (λ n. us
 same_some : (a b : ℕ) → Some a ≡ Some b → b ≡ a
 same_some a b e = cc
 
-source_stays : (code : List ℕ) (q t at : ℕ) → Block code q → q + 2 ≤ t → t ≤ at → at ≤ q + 5 → In code q at → Holds code t at SourceLost → ⊥
+source_stays : (code : List ℕ) (q t at : ℕ) → Block code q → q + 2 ≤ t → t ≤ at → at ≤ q + 5 → In code q at
+    → Holds code t at SourceLost → ⊥
 source_stays code q t at b low order high (at_two e c) h =
     let r : h.0 ≡ 3 = same_some 3 h.0 (ap sets (sym c) ∙ h.1) in
     let here : h.2.place ≡ at = (let above = h.2.above in let below = h.2.below in omega arith) in
@@ -118,11 +125,13 @@ source_stays code q t at b low order high (at_two e c) h =
 source_stays code q t at b low order high (at_three e c) h =
     let above = h.2.above in
     let below = h.2.below in
-    false_true (sym (unused code q h.2.place h.0 (within code q h.2.place b (omega arith) (omega arith)) (inl (same_some 4 h.0 (ap sets (sym c) ∙ h.1)))) ∙ h.2.uses)
+    false_true (sym (unused code q h.2.place h.0 (within code q h.2.place b (omega arith) (omega arith))
+    (inl (same_some 4 h.0 (ap sets (sym c) ∙ h.1)))) ∙ h.2.uses)
 source_stays code q t at b low order high (at_four e c) h =
     let above = h.2.above in
     let below = h.2.below in
-    false_true (sym (unused code q h.2.place h.0 (within code q h.2.place b (omega arith) (omega arith)) (inr (same_some 5 h.0 (ap sets (sym c) ∙ h.1)))) ∙ h.2.uses)
+    false_true (sym (unused code q h.2.place h.0 (within code q h.2.place b (omega arith) (omega arith))
+    (inr (same_some 5 h.0 (ap sets (sym c) ∙ h.1)))) ∙ h.2.uses)
 source_stays code q t at b low order high (at_five e c) h = let none : None ≡ Some h.0 = ap sets (sym c) ∙ h.1 in cc
 
 -- ---- destinations
@@ -145,7 +154,8 @@ not_zero : (code : List ℕ) (q t : ℕ) → IsTrigger code q t → trap_rc (cla
 not_zero code q t (is_first e c) h = clash 3 31 (sym c ∙ h) (λ e. cc)
 not_zero code q t (is_second e c) h = clash 5 31 (sym c ∙ h) (λ e. cc)
 
-differ : (code : List ℕ) (q t at : ℕ) → IsTrigger code q t → IsTrigger code q at → t < at → trap_rc (class_at code at) ≡ trap_rc (class_at code t) → ⊥
+differ : (code : List ℕ) (q t at : ℕ) → IsTrigger code q t → IsTrigger code q at → t < at
+    → trap_rc (class_at code at) ≡ trap_rc (class_at code t) → ⊥
 differ code q t at (is_first e c) (is_first f d) order h = omega arith
 differ code q t at (is_first e c) (is_second f d) order h = clash 5 3 (sym d ∙ (h ∙ c)) (λ e. cc)
 differ code q t at (is_second e c) (is_first f d) order h = omega arith
@@ -153,20 +163,21 @@ differ code q t at (is_second e c) (is_second f d) order h = omega arith
 
 -- ---- no place is broken
 
-module _ (code : List ℕ) (q t at : ℕ) (b : Block code q) (low : q + 2 ≤ t) (order : t ≤ at) (high : at ≤ q + 5) (trigger_kind : kind_at code t ≡ Some kinds.Trigger) where
+module _ (code : List ℕ) (q t at : ℕ) (b : Block code q) (low : q + 2 ≤ t) (order : t ≤ at) (high : at ≤ q + 5)
+    (trigger_kind : kind_at code t ≡ Some kinds.Trigger) where
   here : In code q at
   here = within code q at b (omega arith) high
 
-  by : IsTrigger code q t
-  by = trigger_in code q t (within code q t b low (omega arith)) trigger_kind
+  is_trigger : IsTrigger code q t
+  is_trigger = trigger_in code q t (within code q t b low (omega arith)) trigger_kind
 
   plain : Plain (class_at code at)
   plain = plain_in code q at here
 
   fails : (c : Condition) → Holds code t at c → ⊥
-  fails ZeroDestination h = not_zero code q t by h.1
+  fails ZeroDestination h = not_zero code q t is_trigger h.1
   fails SourceLost h = source_stays code q t at b low order high here h
-  fails SameDestination h = differ code q t at by (trigger_in code q at here h.1) h.0 h.2
+  fails SameDestination h = differ code q t at is_trigger (trigger_in code q at here h.1) h.0 h.2
   fails WildBase h = let base = h.1 in let f : None ≡ Some base.0 = sym plain.access ∙ base.1 in cc
   fails LoadThenStore h = plain.store h.3.1.1.2
   fails Locked h = plain.locked h
@@ -183,14 +194,15 @@ record Found (code : List ℕ) (t : ℕ) : Type 0 where
   high : t ≤ q + 4
 
 -- words behind a block
-behind : (x y k : ℕ) (rest : List ℕ) → class_at (block_words x y ++ rest) (suc (suc (suc (suc (suc (suc (suc (suc (suc k))))))))) ≡ class_at rest k
+class_at-behind_block : (x y k : ℕ) (rest : List ℕ)
+    → class_at (block_words x y ++ rest) (suc (suc (suc (suc (suc (suc (suc (suc (suc k))))))))) ≡ class_at rest k
 unfolding class_at
-behind x y k rest = refl
+class_at-behind_block x y k rest = refl
 
 pub behind_at : (x y k n : ℕ) (rest : List ℕ) → n ≡ k + 9 → class_at (block_words x y ++ rest) n ≡ class_at rest k
 behind_at x y k n rest e =
     let nine : n ≡ suc (suc (suc (suc (suc (suc (suc (suc (suc k)))))))) = omega arith in
-    ap (class_at (block_words x y ++ rest)) nine ∙ behind x y k rest
+    ap (class_at (block_words x y ++ rest)) nine ∙ class_at-behind_block x y k rest
 
 found_behind : (x y k t : ℕ) (rest : List ℕ) → t ≡ k + 9 → Found rest k → Found (block_words x y ++ rest) t
 found_behind x y k t rest e f = record {
@@ -218,7 +230,10 @@ second_plain : (x y : ℕ) (rest : List ℕ) → kind_at (block_words x y ++ res
 unfolding class_at
 second_plain x y rest = ap kind (class_second y)
 
-others_plain : (x y : ℕ) (rest : List ℕ) → (kind_at (block_words x y ++ rest) 6 ≡ Some kinds.Plain) × (kind_at (block_words x y ++ rest) 7 ≡ Some kinds.Plain) × (kind_at (block_words x y ++ rest) 8 ≡ Some kinds.Plain)
+others_plain : (x y : ℕ) (rest : List ℕ)
+    → (kind_at (block_words x y ++ rest) 6 ≡ Some kinds.Plain)
+    × (kind_at (block_words x y ++ rest) 7 ≡ Some kinds.Plain)
+    × (kind_at (block_words x y ++ rest) 8 ≡ Some kinds.Plain)
 unfolding class_at class_in
 others_plain x y rest = (refl, refl, refl)
 
@@ -229,16 +244,20 @@ found_in : (x y t : ℕ) (rest : List ℕ) → ((k : ℕ) → kind_at rest k ≡
     → kind_at (block_words x y ++ rest) t ≡ Some kinds.Trigger → Found (block_words x y ++ rest) t
 found_in x y zero rest later h = no_trigger _ (first_plain x y rest) h
 found_in x y (suc zero) rest later h = no_trigger _ (second_plain x y rest) h
-found_in x y (suc (suc zero)) rest later h = record { q = 0; block = first_block x y rest; low = omega arith; high = omega arith }
-found_in x y (suc (suc (suc zero))) rest later h = record { q = 0; block = first_block x y rest; low = omega arith; high = omega arith }
-found_in x y (suc (suc (suc (suc zero)))) rest later h = record { q = 0; block = first_block x y rest; low = omega arith; high = omega arith }
+found_in x y (suc (suc zero)) rest later h =
+    record { q = 0; block = first_block x y rest; low = omega arith; high = omega arith }
+found_in x y (suc (suc (suc zero))) rest later h =
+    record { q = 0; block = first_block x y rest; low = omega arith; high = omega arith }
+found_in x y (suc (suc (suc (suc zero)))) rest later h =
+    record { q = 0; block = first_block x y rest; low = omega arith; high = omega arith }
 found_in x y (suc (suc (suc (suc (suc zero))))) rest later h =
     let f : Some kinds.Barrier ≡ Some kinds.Trigger = ap kind (sym (first_block x y rest).five) ∙ h in absurd cc
 found_in x y (suc (suc (suc (suc (suc (suc zero)))))) rest later h = no_trigger _ (others_plain x y rest).0 h
 found_in x y (suc (suc (suc (suc (suc (suc (suc zero))))))) rest later h = no_trigger _ (others_plain x y rest).1 h
-found_in x y (suc (suc (suc (suc (suc (suc (suc (suc zero)))))))) rest later h = no_trigger _ (others_plain x y rest).2 h
+found_in x y (suc (suc (suc (suc (suc (suc (suc (suc zero)))))))) rest later h =
+    no_trigger _ (others_plain x y rest).2 h
 found_in x y (suc (suc (suc (suc (suc (suc (suc (suc (suc k))))))))) rest later h =
-    found_behind x y k _ rest (omega arith) (later k (ap kind (sym (behind x y k rest)) ∙ h))
+    found_behind x y k _ rest (omega arith) (later k (ap kind (sym (class_at-behind_block x y k rest)) ∙ h))
 
 -- the ending has none
 ending_plain : (t : ℕ) → kind_at ending_words t ≡ Some kinds.Trigger → ⊥
@@ -246,7 +265,8 @@ unfolding class_at class_in
 ending_plain (suc (suc (suc (suc (suc (suc (suc (suc (suc (suc t)))))))))) h = cc
 ending_plain t h = cc
 
-found : (n : ℕ) (g : Lcg) (t : ℕ) → kind_at (blocks_words n g ++ ending_words) t ≡ Some kinds.Trigger → Found (blocks_words n g ++ ending_words) t
+found : (n : ℕ) (g : Lcg) (t : ℕ) → kind_at (blocks_words n g ++ ending_words) t ≡ Some kinds.Trigger
+    → Found (blocks_words n g ++ ending_words) t
 found zero g t h = absurd (ending_plain t h)
 found (suc n) g t h =
     let x = pcg32 g in
@@ -259,4 +279,5 @@ program_accepted n t at c h =
     let code = blocks_words n (seeded n) ++ ending_words in
     let f = found n (seeded n) t h.trigger_kind in
     let top = f.high in
-    fails code f.q t at f.block f.low h.order (ends code f.q t at f.block (omega arith) h.straight) h.trigger_kind c h.holds
+    fails code f.q t at f.block f.low h.order
+    (ends code f.q t at f.block (omega arith) h.straight) h.trigger_kind c h.holds

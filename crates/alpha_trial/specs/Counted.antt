@@ -3,8 +3,8 @@ use Rattle.std.specs.Prelude.{◌≡◌, ◌≤◌, ◌%◌, ◌^◌, ℕ, List,
 use Rattle.alpha_seq.specs.declared.machine.Machine.{Machine}
 use Rattle.alpha_seq.specs.Run.{after}
 use Rattle.alpha_seq.specs.Machine.{program_of, state_of}
-use Rattle.alpha_imprecise.specs.Made.{made, first_words, most_words}
-use Rattle.alpha_imprecise.specs.Wild.{WildState, begun_at}
+use Rattle.alpha_imprecise.specs.ChosenRun.{chosen_run, first_words, most_words}
+use Rattle.alpha_imprecise.specs.ImpreciseState.{ImpreciseState, begun_at}
 use Rattle.alpha_trial.specs.declared.report.Counts.{Counts}
 use Rattle.alpha_trial.specs.Report.{Tally, run_tally, making_tally}
 
@@ -14,11 +14,11 @@ pub record RunsTo (n : ℕ) (old new : Machine) (bytes : List ℕ) (steps : ℕ)
       ≡ record { overflows = new.overflows; steps = steps; output = bytes; drawn = 0 }
   pub program : program_of new ≡ program_of old
 
--- The imprecise run of at most n units, over an empty input, by words that are told: it used so many units, drew so many
--- words, modulo 2 ^ 64, and put these bytes.
-pub record MakesTo (n : ℕ) (ahead : ℕ → ℕ) (old new : WildState) (bytes : List ℕ) (units count : ℕ) : Type 0 where
+-- The imprecise run of at most n units, over an empty input, by words that are told: it used so many units, drew so
+-- many words, modulo 2 ^ 64, and put these bytes.
+pub record MakesTo (n : ℕ) (ahead : ℕ → ℕ) (old new : ImpreciseState) (bytes : List ℕ) (units count : ℕ) : Type 0 where
   pub drawn : ℕ
-  pub is : making_tally (made (program_of old.machine) (begun_at old [] (first_words (most_words n) ahead)) n)
+  pub is : making_tally (chosen_run (program_of old.machine) (begun_at old [] (first_words (most_words n) ahead)) n)
       ≡ record { overflows = new.machine.overflows; steps = units; output = bytes; drawn = drawn }
   pub few : drawn ≤ most_words n
   pub counted : count % 2 ^ 64 ≡ drawn % 2 ^ 64

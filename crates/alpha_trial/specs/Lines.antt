@@ -3,9 +3,9 @@ use Rattle.std.specs.Prelude.{◌≡◌, ◌≤◌, ◌+◌, ◌*◌, ℕ, List,
 use Rattle.alpha_seq.specs.declared.end.End.TheVariants.{Exit}
 use Rattle.alpha_seq.specs.State.{Ends}
 use Rattle.alpha_seq.specs.Run.{Run, output}
-use Rattle.alpha_imprecise.specs.Moment.{Precisely}
+use Rattle.alpha_imprecise.specs.StepResult.{Precisely}
 use Rattle.alpha_imprecise.specs.Run.{seen}
-use Rattle.alpha_imprecise.specs.Made.{Making}
+use Rattle.alpha_imprecise.specs.ChosenRun.{ChosenRun}
 use Rattle.alpha_trial.specs.Words.{program_words}
 use Rattle.alpha_trial.specs.Report.{Tally, line}
 
@@ -15,10 +15,10 @@ pub record Exits (steps : ℕ) (r : Run) : Type 0 where
   pub steps_are : length r.events ≡ steps
   pub eight : length (output r.events) ≡ 8
 
--- The imprecise run ends as the sequential run does, after as many units, with the same events and in the same state: with the
--- same count of overflows and the same output. It draws a word at least for each overflow.
-pub record EndsAlike (r : Run) (k : Making) : Type 0 where
-  pub last : k.run.at.happened ≡ Precisely r.at.event
+-- The imprecise run ends as the sequential run does, after as many units, with the same events and in the same state:
+-- with the same count of overflows and the same output. It draws a word at least for each overflow.
+pub record EndsAlike (r : Run) (k : ChosenRun) : Type 0 where
+  pub last : k.run.at.last_event ≡ Precisely r.at.event
   pub units : k.run.units ≡ length r.events
   pub events : seen k.run.steps ≡ r.events
   pub state : k.run.at.state ≡ r.at.state

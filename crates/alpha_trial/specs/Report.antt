@@ -11,7 +11,7 @@ use Rattle.alpha_seq.specs.Start.{start}
 use Rattle.alpha_seq.specs.Run.{Run, output, after}
 use Rattle.alpha_imprecise.specs.Pcg.{pcg_word, seeded}
 use Rattle.alpha_imprecise.specs.Run.{seen}
-use Rattle.alpha_imprecise.specs.Made.{Making, begun, made, first_words, most_words}
+use Rattle.alpha_imprecise.specs.ChosenRun.{ChosenRun, begun, chosen_run, first_words, most_words}
 use Rattle.alpha_trial.specs.Words.{trial_image}
 
 -- how many overflows were logged, how many steps or units were made, the bytes put, and how many words were drawn
@@ -25,7 +25,7 @@ pub record Tally : Type 0 where
 abbrev pub run_tally : Run → Tally
 run_tally r = record { overflows = r.at.state.count; steps = length r.events; output = output r.events; drawn = 0 }
 
-abbrev pub making_tally : Making → Tally
+abbrev pub making_tally : ChosenRun → Tally
 making_tally k = record {
   overflows = k.run.at.state.count;
   steps = k.run.units;
@@ -37,8 +37,8 @@ making_tally k = record {
 abbrev pub is_trigger : ℕ → Bool
 is_trigger word = is_some (option_and_then trap_op_of (decoded word))
 
--- `MODE words W triggers T overflows V steps S result H drawn D`: H has two hexadecimal digits for each byte of the output,
--- all other numbers are decimal
+-- `MODE words W triggers T overflows V steps S result H drawn D`: H has two hexadecimal digits for each byte of the
+-- output, all other numbers are decimal
 unfoldable pub line : List ℕ → List ℕ → Tally → List ℕ
 line mode words t =
     mode ++ codes " words " ++ decimal (length words) ++ codes " triggers " ++ decimal (count_by is_trigger words)
@@ -47,16 +47,16 @@ line mode words t =
 
 -- the program of an image, whose results wrap around
 abbrev pub wrapping : Parts → Program
-wrapping image = record { image = image; how = Wrap }
+wrapping image = record { image = image; completion = Wrap }
 
 -- the run of so many steps at most, over an empty input
 unfoldable pub sequential_run : ℕ → Parts → Run
 sequential_run units image = after (wrapping image) (start (wrapping image)) [] units
 
 -- the run of so many units at most, over an empty input, by the words of the chooser that a number seeds
-unfoldable pub imprecise_run : ℕ → Parts → ℕ → Making
+unfoldable pub imprecise_run : ℕ → Parts → ℕ → ChosenRun
 imprecise_run units image seed =
-    made (wrapping image)
+    chosen_run (wrapping image)
     (begun (start (wrapping image)) [] None 0 (first_words (most_words units) (pcg_word (seeded seed)))) units
 
 -- both lines, of runs of so many units

@@ -6,7 +6,8 @@ ghost use Rattle.rand_pcg.specs.Pcg.{pcg32};
 ghost use Rattle.alpha_image.specs.Layout.{longword};
 ghost use Rattle.alpha_image.specs.Parts.{IsImage};
 ghost use Rattle.alpha_trial.specs.Program.{seeded};
-ghost use Rattle.alpha_trial.specs.Words.{displacement_field, block_words, blocks_words, ending_words, program_words, trial_image};
+ghost use Rattle.alpha_trial.specs.Words.{displacement_field, block_words, blocks_words, ending_words, program_words};
+ghost use Rattle.alpha_trial.specs.Words.{trial_image};
 
 use alpha_image::{Fields, Image, push_longword};
 use alpha_words::NoMemory;
@@ -55,7 +56,7 @@ fn program(alloc: Global, n: u32) -> Result<Vec<u8>, AllocError>
     let size = n as usize * BLOCK_SIZE + ENDING_SIZE;
     let mut code = Vec::with_capacity(alloc, size)?;
     push_blocks(&mut code, n)?;
-    push_words(&mut code, &ending())?;
+    push_words(&mut code, &exit_block())?;
     Ok(code)
 }
 
@@ -110,7 +111,7 @@ fn block(x: u32, y: u32) -> [u32; 9]
 }
 
 // The words behind the blocks.
-fn ending() -> [u32; 10]
+fn exit_block() -> [u32; 10]
     ensures { result ≡ ending_words }
 {
     [

@@ -9,8 +9,8 @@ use alpha_io::{MemorySink, NullSink, SureSource};
 use alpha_seq::Machine;
 use alpha_words::NoMemory;
 
-/// Runs a machine, in user mode, for so many steps at most, and answers how many it made. `NoMemory` where the output had
-/// no room.
+/// Runs a machine, in user mode, for so many steps at most, and answers how many it made. `NoMemory` where the output
+/// had no room.
 pub(crate) fn run_sequential(
     machine: &mut Machine,
     input: &mut SureSource,

@@ -1,9 +1,10 @@
 //! The trial: its two runs, and what it writes of them.
 
 ghost use Rattle.std.specs.Prelude.{◌≡◌, ◌<◌, ◌≤◌, ◌^◌, ◌++◌, [], IfOk, OnOk, Err, codes};
-ghost use Rattle.alpha_io.specs.Sunk.{sunk, Puts, Partly, HasFailed};
+ghost use Rattle.alpha_io.specs.SinkChange.{sink_change, Puts, WritesPartly, HasFailed};
 ghost use Rattle.alpha_trial.specs.Words.{trial_image};
-ghost use Rattle.alpha_trial.specs.Report.{run_tally, making_tally, line, sequential_run, imprecise_run, text_within, trial_text};
+ghost use Rattle.alpha_trial.specs.Report.{run_tally, making_tally, line, sequential_run, imprecise_run, text_within};
+ghost use Rattle.alpha_trial.specs.Report.{trial_text};
 
 use crate::report::{Counts, push_line};
 use crate::runs::{run_imprecise, run_sequential};
@@ -42,12 +43,12 @@ pub enum TrialFault {
 pub fn trial<K: Sink>(alloc: Global, n: u32, out: &mut K) -> Result<(), TrialFault>
     requires some { 0 < n }
     requires bound { n ≤ 20000 }
-    ensures ok { OnOk result (Puts (sunk K.Sink out.old out.new) (trial_text n)) }
+    ensures ok { OnOk result (Puts (sink_change K.Sink out.old out.new) (trial_text n)) }
     ensures memory { result ≡ Err TrialFault.NoMemory
-        → Puts (sunk K.Sink out.old out.new) [] }
+        → Puts (sink_change K.Sink out.old out.new) [] }
     ensures sink { result ≡ Err TrialFault.Sink
-        → HasFailed (sunk K.Sink out.old out.new) }
-    ensures prefix { Partly (sunk K.Sink out.old out.new) (trial_text n) }
+        → HasFailed (sink_change K.Sink out.old out.new) }
+    ensures prefix { WritesPartly (sink_change K.Sink out.old out.new) (trial_text n) }
 {
     match text(alloc, n) {
         Ok(text) => match write_whole(out, &text) {
@@ -76,7 +77,7 @@ fn text_within(alloc: Global, n: u32, units: u64) -> Result<Vec<u8>, NoMemory>
     requires few { units ≤ 2 ^ 32 }
     ensures { IfOk result (λ text. text.items ≡ text_within units n) }
 {
-    let image = judged(alloc, n)?;
+    let image = accepted_image(alloc, n)?;
     let mut text = Vec::new(alloc);
     let image = push_sequential(alloc, &mut text, image, units)?;
     push_imprecise(alloc, &mut text, image, u64::from(n), units)?;
@@ -84,7 +85,7 @@ fn text_within(alloc: Global, n: u32, units: u64) -> Result<Vec<u8>, NoMemory>
 }
 
 // The image, which the checker accepts.
-fn judged(alloc: Global, n: u32) -> Result<Image, NoMemory>
+fn accepted_image(alloc: Global, n: u32) -> Result<Image, NoMemory>
     requires some { 0 < n }
     requires bound { n ≤ 20000 }
     ensures { IfOk result (λ image. image ≡ trial_image n) }

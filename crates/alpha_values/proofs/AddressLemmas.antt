@@ -1,5 +1,6 @@
 -- Where two accesses by one base touch a common byte.
-use Rattle.std.proofs.Common.{◌≡◌, ℕ, ◌+◌, ◌-◌, ◌*◌, ◌/◌, ◌%◌, ◌^◌, ◌<◌, ◌≤◌, Bool, true, false, cond, ℤ, pos, negsuc, ◌+ℤ◌, ◌-ℤ◌, ◌≤ℤ◌, ◌<ℤ◌, ◌↔◌, FitsSigned, sym, ap, arith, max}
+use Rattle.std.proofs.Common.{◌≡◌, ℕ, ◌+◌, ◌-◌, ◌*◌, ◌/◌, ◌%◌, ◌^◌, ◌<◌, ◌≤◌, Bool, true, false, cond, ℤ, pos, negsuc}
+use Rattle.std.proofs.Common.{◌+ℤ◌, ◌-ℤ◌, ◌≤ℤ◌, ◌<ℤ◌, ◌↔◌, FitsSigned, sym, ap, arith, max}
 use Rattle.std.specs.Int.{w16}
 use Rattle.std.proofs.lemmas.Int.{ints, by_lt_z}
 use Rattle.std.proofs.lemmas.Bool.{cond_both}
@@ -20,7 +21,8 @@ unfolding raised
 raised_is (pos n) fits = let h = fits.sfits in (omega (arith, ints), omega arith)
 raised_is (negsuc n) fits = let h = fits.sfits in (omega (arith, ints), omega arith)
 
-address_raised : (base : ℕ) (d : ℤ) → FitsSigned w16 d → address_of base d ≡ (base + (2 ^ 64 - 32768) + raised d) % 2 ^ 64
+address_raised : (base : ℕ) (d : ℤ) → FitsSigned w16 d
+    → address_of base d ≡ (base + (2 ^ 64 - 32768) + raised d) % 2 ^ 64
 unfolding address_of
 address_raised base d fits =
     let is = (raised_is d fits).0 in
@@ -28,7 +30,8 @@ address_raised base d fits =
 
 -- where two addresses by one base lie in memory, they lie as far apart as their displacements
 as_far : (base : ℕ) (d e : ℤ) → base < 2 ^ 64 → FitsSigned w16 d → FitsSigned w16 e
-    → address_of base d < 2 ^ 31 → address_of base e < 2 ^ 31 → address_of base d + raised e ≡ address_of base e + raised d
+    → address_of base d < 2 ^ 31 → address_of base e < 2 ^ 31
+    → address_of base d + raised e ≡ address_of base e + raised d
 as_far base d e small fits also low under =
     omega (arith, address_raised base d fits, address_raised base e also, (raised_is d fits).1, (raised_is e also).1)
 
@@ -37,7 +40,8 @@ unfolding address_of
 address_of-lt base d = register_bound _
 
 -- an access by the way it comes to its address
-access_by : (c : MemAccess) (base : ℕ) (clears : Bool) → c.clears ≡ clears → access_address c base ≡ cond clears (address_of base c.disp / 8 * 8) (address_of base c.disp)
+access_by : (c : MemAccess) (base : ℕ) (clears : Bool) → c.clears ≡ clears
+    → access_address c base ≡ cond clears (address_of base c.disp / 8 * 8) (address_of base c.disp)
 unfolding access_address
 access_by c base clears e = ap (λ b. cond b (address_of base c.disp / 8 * 8) (address_of base c.disp)) e
 
@@ -45,10 +49,11 @@ pub access_address-lt : (c : MemAccess) (base : ℕ) → access_address c base <
 unfolding access_address
 access_address-lt c base =
     let small = address_of-lt base c.disp in
-    cond_both c.clears (address_of base c.disp / 8 * 8) (address_of base c.disp) (λ n. n < 2 ^ 64) (λ e. omega arith) (λ e. small)
+    cond_both c.clears (address_of base c.disp / 8 * 8) (address_of base c.disp) (λ n. n < 2 ^ 64) (λ e. omega arith)
+    (λ e. small)
 
 -- the access begins at its address or, with bits cleared, up to seven bytes before
-record Near (c : MemAccess) (base : ℕ) : Type 0 where
+record IsNear (c : MemAccess) (base : ℕ) : Type 0 where
   low : address_of base c.disp ≤ access_address c base + cond c.clears 7 0
   high : access_address c base ≤ address_of base c.disp
 
@@ -60,9 +65,9 @@ cleared_high : (clears : Bool) (n : ℕ) → cond clears (n / 8 * 8) n ≤ n
 cleared_high true n = omega arith
 cleared_high false n = omega arith
 
-near : (c : MemAccess) (base : ℕ) → Near c base
+address-near : (c : MemAccess) (base : ℕ) → IsNear c base
 unfolding access_address
-near c base = record {
+address-near c base = record {
   low = cleared_low c.clears (address_of base c.disp);
   high = cleared_high c.clears (address_of base c.disp);
 }
@@ -70,7 +75,7 @@ near c base = record {
 -- what lies in memory lies below 2 ^ 31 before its bits are cleared
 in_memory : (c : MemAccess) (base : ℕ) → access_address c base + c.bytes ≤ 2 ^ 30 → address_of base c.disp < 2 ^ 31
 in_memory c base h =
-    let close = near c base in
+    let close = address-near c base in
     let few : cond c.clears 7 0 ≤ 7 = cond_both c.clears 7 0 (λ n. n ≤ 7) (λ e. omega arith) (λ e. omega arith) in
     omega arith
 
@@ -83,7 +88,10 @@ below_end false d e n fits also h = let p = (raised_is d fits).0 in let q = (rai
 below_end-back : (clears : Bool) (d e : ℤ) (n : ℕ) → FitsSigned w16 d → FitsSigned w16 e → clears ≡ false
     → cond clears (d -ℤ pos 7) d <ℤ (e +ℤ pos n) → raised d < raised e + n
 below_end-back true d e n fits also none h = absurd cc
-below_end-back false d e n fits also none h = let p = (raised_is d fits).0 in let q = (raised_is e also).0 in omega (arith, ints)
+below_end-back false d e n fits also none h =
+    let p = (raised_is d fits).0 in
+    let q = (raised_is e also).0 in
+    omega (arith, ints)
 
 -- where a byte of a isn't past the end of b, a begins below b's end
 one_end : (a b : MemAccess) (base y : ℕ) → FitsSigned w16 a.disp → FitsSigned w16 b.disp
@@ -91,8 +99,8 @@ one_end : (a b : MemAccess) (base y : ℕ) → FitsSigned w16 a.disp → FitsSig
     → access_address a base ≤ y → y < access_address b base + b.bytes
     → (bytes_spanned a).low <ℤ (bytes_spanned b).high
 one_end a b base y fits also far from below =
-    let near_a = near a base in
-    let near_b = near b base in
+    let near_a = address-near a base in
+    let near_b = address-near b base in
     below_end a.clears a.disp b.disp b.bytes fits also (omega (arith, near_a.low, near_b.high))
 
 -- two accesses by one base that touch a common byte of memory: their spans meet
@@ -104,16 +112,21 @@ common-meets a b base y small fits also there there_too one other =
     (one_end a b base y fits also far one.from other.below, one_end b a base y also fits (sym far) other.from one.below)
 
 -- and where their spans meet they touch one, if neither clears bits of its address
-pub meeting-touches : (a b : MemAccess) (base : ℕ) → base < 2 ^ 64 → FitsSigned w16 a.disp → FitsSigned w16 b.disp → 0 < a.bytes → 0 < b.bytes
-    → access_address a base + a.bytes ≤ 2 ^ 30 → access_address b base + b.bytes ≤ 2 ^ 30 → a.clears ≡ false → b.clears ≡ false
+pub meeting-touches : (a b : MemAccess) (base : ℕ) → base < 2 ^ 64 → FitsSigned w16 a.disp → FitsSigned w16 b.disp
+    → 0 < a.bytes → 0 < b.bytes
+    → access_address a base + a.bytes ≤ 2 ^ 30 → access_address b base + b.bytes ≤ 2 ^ 30 → a.clears ≡ false
+    → b.clears ≡ false
     → AccessesMeet a b → (y : ℕ) × Covers a base y × Covers b base y
 meeting-touches a b base small fits also some some_too there there_too plain plain_too meet =
     let far = as_far base a.disp b.disp small fits also (in_memory a base there) (in_memory b base there_too) in
     let x = access_by a base false plain in
     let y = access_by b base false plain_too in
     let low = below_end-back a.clears a.disp b.disp b.bytes fits also plain meet.0 in
-    let high = below_end-back b.clears b.disp a.disp a.bytes also fits plain_too meet.1 in
-    (max (access_address a base) (access_address b base), record { from = omega arith; below = omega arith }, record { from = omega arith; below = omega arith })
+    let high = below_end-back b.clears b.disp a.disp a.bytes also fits plain_too meet.1 in (
+      max (access_address a base) (access_address b base),
+      record { from = omega arith; below = omega arith },
+      record { from = omega arith; below = omega arith },
+    )
 
 first_below : (clears : Bool) (d : ℤ) (n : ℕ) → 0 < n → cond clears (d -ℤ pos 7) d <ℤ (d +ℤ pos n)
 first_below true d n some = omega (arith, ints)
@@ -124,17 +137,23 @@ first_in_span : (c : MemAccess) → 0 < c.bytes → first_byte c <ℤ (c.disp +�
 first_in_span c some = first_below c.clears c.disp c.bytes some
 
 -- spans that meet have a byte in common, the later one of their first bytes
-common : (a b : MemAccess) → 0 < a.bytes → 0 < b.bytes → AccessesMeet a b → (distance : ℤ) × IsInSpan a distance × IsInSpan b distance
+common : (a b : MemAccess) → 0 < a.bytes → 0 < b.bytes → AccessesMeet a b
+    → (distance : ℤ) × IsInSpan a distance × IsInSpan b distance
 common a b some some_too h =
     let first = first_in_span a some in
     let first_too = first_in_span b some_too in
     by_lt_z (first_byte a) (first_byte b)
-    (λ l. (first_byte b, record { from = omega (arith, ints, l); below = h.1 }, record { from = omega (arith, ints); below = first_too }))
+    (λ l. (
+      first_byte b,
+      record { from = omega (arith, ints, l); below = h.1 },
+      record { from = omega (arith, ints); below = first_too },
+    ))
     (λ l. (first_byte a, record { from = omega (arith, ints); below = first }, record { from = l; below = h.0 }))
 
-meet : (a b : MemAccess) → ((distance : ℤ) × IsInSpan a distance × IsInSpan b distance) → AccessesMeet a b
-meet a b (x, one, other) = (omega (arith, ints, one.from, other.below), omega (arith, ints, other.from, one.below))
+address-meet : (a b : MemAccess) → ((distance : ℤ) × IsInSpan a distance × IsInSpan b distance) → AccessesMeet a b
+address-meet a b (x, one, other) =
+    (omega (arith, ints, one.from, other.below), omega (arith, ints, other.from, one.below))
 
 pub meeting-common : (a b : MemAccess) → 0 < a.bytes → 0 < b.bytes
     → (AccessesMeet a b ↔ ((distance : ℤ) × IsInSpan a distance × IsInSpan b distance))
-meeting-common a b some some_too = (common a b some some_too, meet a b)
+meeting-common a b some some_too = (common a b some some_too, address-meet a b)

@@ -1,23 +1,35 @@
 -- Each result fits a register.
-use Rattle.std.proofs.Common.{◌≡◌, ℕ, zero, suc, ◌+◌, ◌-◌, ◌*◌, ◌/◌, ◌%◌, ◌^◌, ◌<◌, ◌≤◌, Bool, true, false, cond, List, [], ◌∷◌, length, ap, arith}
+use Rattle.std.proofs.Common.{◌≡◌, ℕ, zero, suc, ◌+◌, ◌-◌, ◌*◌, ◌/◌, ◌%◌, ◌^◌, ◌<◌, ◌≤◌, Bool, true, false, cond, List}
+use Rattle.std.proofs.Common.{[], ◌∷◌, length, ap, arith}
 use Rattle.std.specs.Prelude.{nat_le, ◌==◌, if◌then◌else◌}
 use Rattle.std.proofs.Math.Nat.{pow-le-pow_right}
-use Rattle.std.proofs.lemmas.Nat.{mul-add-lt, pow_pos, pow-add, pow_below, mod_below, shr_below, shr_le, and_le_l, or_lt, xor_lt, mul-lt, ones-le, leading_le, trailing_le}
+use Rattle.std.proofs.lemmas.Nat.{mul-add-lt, pow_pos, pow-add, pow_below, mod_below, shr_below, shr_le, and_le_l}
+use Rattle.std.proofs.lemmas.Nat.{or_lt, xor_lt, mul-lt, ones-le, leading_le, trailing_le}
 use Rattle.alpha_words.specs.declared.Level.{Level}
 use Rattle.alpha_words.specs.declared.Level.TheVariants.{One, Two}
 use Rattle.alpha_table.specs.declared.op.Op.{Op}
-use Rattle.alpha_table.specs.declared.op.Op.TheVariants.{Addl, S4addl, Subl, S4subl, Cmpbge, S8addl, S8subl, Cmpult, Addq, S4addq, Subq, S4subq, Cmpeq, S8addq, S8subq, Cmpule, AddlV, SublV, Cmplt, AddqV, SubqV, Cmple, And, Bic, Cmovlbs, Cmovlbc, Bis, Cmoveq, Cmovne, Ornot, Xor, Cmovlt, Cmovge, Eqv, Amask, Cmovle, Cmovgt, Implver, Mskbl, Extbl, Insbl, Mskwl, Extwl, Inswl, Mskll, Extll, Insll, Zap, Zapnot, Mskql, Srl, Extql, Sll, Insql, Sra, Mskwh, Inswh, Extwh, Msklh, Inslh, Extlh, Mskqh, Insqh, Extqh, Mull, Mulq, Umulh, MullV, MulqV, Sextb, Sextw, Ctpop, Ctlz, Cttz}
+use Rattle.alpha_table.specs.declared.op.Op.TheVariants.{Addl, S4addl, Subl, S4subl, Cmpbge, S8addl, S8subl, Cmpult}
+use Rattle.alpha_table.specs.declared.op.Op.TheVariants.{Addq, S4addq, Subq, S4subq, Cmpeq, S8addq, S8subq, Cmpule}
+use Rattle.alpha_table.specs.declared.op.Op.TheVariants.{AddlV, SublV, Cmplt, AddqV, SubqV, Cmple, And, Bic, Cmovlbs}
+use Rattle.alpha_table.specs.declared.op.Op.TheVariants.{Cmovlbc, Bis, Cmoveq, Cmovne, Ornot, Xor, Cmovlt, Cmovge, Eqv}
+use Rattle.alpha_table.specs.declared.op.Op.TheVariants.{Amask, Cmovle, Cmovgt, Implver, Mskbl, Extbl, Insbl, Mskwl}
+use Rattle.alpha_table.specs.declared.op.Op.TheVariants.{Extwl, Inswl, Mskll, Extll, Insll, Zap, Zapnot, Mskql, Srl}
+use Rattle.alpha_table.specs.declared.op.Op.TheVariants.{Extql, Sll, Insql, Sra, Mskwh, Inswh, Extwh, Msklh, Inslh}
+use Rattle.alpha_table.specs.declared.op.Op.TheVariants.{Extlh, Mskqh, Insqh, Extqh, Mull, Mulq, Umulh, MullV, MulqV}
+use Rattle.alpha_table.specs.declared.op.Op.TheVariants.{Sextb, Sextw, Ctpop, Ctlz, Cttz}
 use Rattle.alpha_table.specs.declared.op.Cond.TheVariants.{Lbc, Lbs, Eq, Ne, Lt, Le, Ge, Gt}
 use Rattle.alpha_words.specs.Digits.{digits, number}
 use Rattle.alpha_values.specs.Bits.{pairwise, bytes_of}
 use Rattle.alpha_values.specs.Cond.{is_taken}
-use Rattle.alpha_values.specs.Op.{flag, features, implementation, complement, inserted, zapped, bytes_compared, result_of}
+use Rattle.alpha_values.specs.Op.{flag, features, implementation, complement, inserted, zapped, bytes_compared}
+use Rattle.alpha_values.specs.Op.{result_of}
 use Rattle.alpha_values.proofs.Words.{register_bound}
 use Rattle.alpha_words.proofs.DigitLemmas.{AllBelow, digits-AllBelow, length-digits}
 use Rattle.alpha_values.proofs.CountLemmas.{sum_bits, leading_bits, trailing_bits}
 
 pairwise_bound : (w v : ℕ) (f : ℕ → ℕ → ℕ) (xs ys : List ℕ) (count : ℕ)
-    → ((x y : ℕ) → y < v → f x y < 2 ^ w) → AllBelow v ys → length ys ≤ count → number (2 ^ w) (pairwise f xs ys) < 2 ^ (w * count)
+    → ((x y : ℕ) → y < v → f x y < 2 ^ w) → AllBelow v ys → length ys ≤ count
+    → number (2 ^ w) (pairwise f xs ys) < 2 ^ (w * count)
 unfolding number pairwise
 pairwise_bound w v f [] ys count each below long = pow_pos (w * count)
 pairwise_bound w v f (x ∷ xs) [] count each below long = pow_pos (w * count)
@@ -25,7 +37,12 @@ pairwise_bound w v f (x ∷ xs) (y ∷ ys) zero each below long = absurd (omega 
 pairwise_bound w v f (x ∷ xs) (y ∷ ys) (suc count) each below long =
     let rest = pairwise_bound w v f xs ys count each below.1 (omega arith) in
     let more : w * suc count ≡ w + w * count = omega arith in
-    omega (arith, mul-add-lt _ (2 ^ w) (f x y) (2 ^ (w * count)) rest (each x y below.0), ap (λ k. 2 ^ k) more, pow-add 2 w (w * count))
+    omega (
+      arith,
+      mul-add-lt _ (2 ^ w) (f x y) (2 ^ (w * count)) rest (each x y below.0),
+      ap (λ k. 2 ^ k) more,
+      pow-add 2 w (w * count),
+    )
 
 choice_bound : (b : Bool) (m n : ℕ) (bound : ℕ) → m < bound → n < bound → cond b m n < bound
 choice_bound true m n bound p q = p
@@ -34,12 +51,19 @@ choice_bound false m n bound p q = q
 zapped_bound : (a marks : ℕ) → zapped a marks < 2 ^ 64
 unfolding zapped
 zapped_bound a marks =
-    pairwise_bound 8 256 (λ mark byte. if mark == 1 then 0 else byte) (digits 2 8 marks) (bytes_of a) 8 (λ x y small. choice_bound (x == 1) 0 y 256 (omega arith) small) (digits-AllBelow 8 8 a) (omega (arith, length-digits 256 8 a))
+    pairwise_bound 8 256 (λ mark byte. if mark == 1 then 0 else byte) (digits 2 8 marks) (bytes_of a) 8
+    (λ x y small. choice_bound (x == 1) 0 y 256 (omega arith) small) (digits-AllBelow 8 8 a)
+    (omega (arith, length-digits 256 8 a))
 
 compared_bound : (a b : ℕ) → bytes_compared a b < 2 ^ 64
 unfolding bytes_compared
 compared_bound a b =
-    omega (arith, pairwise_bound 1 256 (λ x y. if nat_le y x then 1 else 0) (bytes_of a) (bytes_of b) 8 (λ x y small. choice_bound (nat_le y x) 1 0 2 (omega arith) (omega arith)) (digits-AllBelow 8 8 b) (omega (arith, length-digits 256 8 b)))
+    omega (
+      arith,
+      pairwise_bound 1 256 (λ x y. if nat_le y x then 1 else 0) (bytes_of a) (bytes_of b) 8
+          (λ x y small. choice_bound (nat_le y x) 1 0 2 (omega arith) (omega arith)) (digits-AllBelow 8 8 b)
+          (omega (arith, length-digits 256 8 b)),
+    )
 
 flag_bound : (b : Bool) → flag b < 2 ^ 64
 flag_bound b = choice_bound b 1 0 (2 ^ 64) (omega arith) (omega arith)
@@ -67,7 +91,8 @@ implementation_bound : (level : Level) → implementation level < 2 ^ 64
 implementation_bound One = omega arith
 implementation_bound Two = omega arith
 
-pub result_bound : (level : Level) (op : Op) (a b old : ℕ) → a < 2 ^ 64 → b < 2 ^ 64 → old < 2 ^ 64 → result_of level op a b old < 2 ^ 64
+pub result_bound : (level : Level) (op : Op) (a b old : ℕ) → a < 2 ^ 64 → b < 2 ^ 64 → old < 2 ^ 64
+    → result_of level op a b old < 2 ^ 64
 unfolding result_of
 result_bound level Addl a b old p q r = register_bound _
 result_bound level AddlV a b old p q r = register_bound _

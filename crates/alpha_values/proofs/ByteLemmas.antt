@@ -1,5 +1,6 @@
 -- The byte forms are operations on a list of bytes.
-use Rattle.std.proofs.Common.{◌≡◌, ℕ, zero, suc, ◌+◌, ◌-◌, ◌*◌, ◌/◌, ◌%◌, ◌^◌, ◌<◌, ◌≤◌, ◌∙◌, List, ◌++◌, length, take, drop, replicate, refl, ap, sym, arith, bit_and}
+use Rattle.std.proofs.Common.{◌≡◌, ℕ, zero, suc, ◌+◌, ◌-◌, ◌*◌, ◌/◌, ◌%◌, ◌^◌, ◌<◌, ◌≤◌, ◌∙◌, List, ◌++◌, length, take}
+use Rattle.std.proofs.Common.{drop, replicate, refl, ap, sym, arith, bit_and}
 use Rattle.std.proofs.lemmas.List.{length-append, length-replicate, length-drop, take_all}
 use Rattle.std.proofs.lemmas.Nat.{and_mask, pow_pos, mod_below, one_shl, shl_whole, pow_below}
 use Rattle.std.proofs.lemmas.Nat.Bits.{ones_shr}
@@ -8,8 +9,11 @@ use Rattle.std.proofs.Math.Pow.{mod-mod-pow}
 use Rattle.alpha_words.specs.Digits.{digits, number}
 use Rattle.alpha_values.specs.Bits.{bytes_of}
 use Rattle.alpha_values.specs.Op.{complement, extracted_low, extracted_high, inserted, marked, zapped}
-use Rattle.alpha_values.specs.Lists.{inverted, in_sixteen, bytes_from, bytes_above, low_placed, high_placed, cleared, low_cleared, high_cleared}
-use Rattle.alpha_words.proofs.DigitLemmas.{AllBelow, number-digits, digits-AllBelow, number-take, number-drop, digits-number, number-zeros_below, number-zeros_above, zeros-AllBelow, AllBelow-append, AllBelow-take, AllBelow-drop}
+use Rattle.alpha_values.specs.Lists.{inverted, in_sixteen, bytes_from, bytes_above, low_placed, high_placed, cleared}
+use Rattle.alpha_values.specs.Lists.{low_cleared, high_cleared}
+use Rattle.alpha_words.proofs.DigitLemmas.{AllBelow, number-digits, digits-AllBelow, number-take, number-drop}
+use Rattle.alpha_words.proofs.DigitLemmas.{digits-number, number-zeros_below, number-zeros_above, zeros-AllBelow}
+use Rattle.alpha_words.proofs.DigitLemmas.{AllBelow-append, AllBelow-take, AllBelow-drop}
 use Rattle.alpha_values.proofs.PairLemmas.{digits-inverted}
 
 number-bytes : (a : ℕ) → a < 2 ^ 64 → number 256 (bytes_of a) ≡ a
@@ -34,20 +38,24 @@ unfolding bytes_from
 extracted_low_is size a b small =
     let n = b % 8 in
     sym (number-take 8 size (drop n (bytes_of a)) (AllBelow-drop 256 n _ (bytes-AllBelow a))
-    ∙ ap (λ m. m % 2 ^ (8 * size)) (number-drop 8 n (bytes_of a) (bytes-AllBelow a) ∙ ap (λ m. m / 2 ^ (8 * n)) (number-bytes a small)))
+    ∙ ap (λ m. m % 2 ^ (8 * size))
+    (number-drop 8 n (bytes_of a) (bytes-AllBelow a) ∙ ap (λ m. m / 2 ^ (8 * n)) (number-bytes a small)))
 
 pub extracted_high_is : (size a b : ℕ) → size ≤ 8 → a < 2 ^ 64 → extracted_high size a b ≡ bytes_above size a b
 unfolding bytes_above
 extracted_high_is size a b within small =
     let up = (8 - b % 8) % 8 in
-    let below = AllBelow-append 256 (replicate up 0) (bytes_of a) (zeros-AllBelow 256 up (omega arith)) (bytes-AllBelow a) in
+    let below =
+    AllBelow-append 256 (replicate up 0) (bytes_of a) (zeros-AllBelow 256 up (omega arith)) (bytes-AllBelow a) in
     let moved : a * 2 ^ (8 * up) ≡ 2 ^ (8 * up) * a = omega arith in
     mod-mod_bytes (a * 2 ^ (8 * up)) size within
     ∙ sym (number-take 8 size (replicate up 0 ++ bytes_of a) below
-    ∙ ap (λ m. m % 2 ^ (8 * size)) (number-zeros_below 8 up (bytes_of a) ∙ (ap (λ m. 2 ^ (8 * up) * m) (number-bytes a small) ∙ sym moved)))
+    ∙ ap (λ m. m % 2 ^ (8 * size))
+    (number-zeros_below 8 up (bytes_of a) ∙ (ap (λ m. 2 ^ (8 * up) * m) (number-bytes a small) ∙ sym moved)))
 
 -- the sixteen bytes as a number
-number-in_sixteen : (w place : ℕ) (xs : List ℕ) → number (2 ^ w) (in_sixteen place xs) ≡ 2 ^ (w * place) * number (2 ^ w) xs
+number-in_sixteen : (w place : ℕ) (xs : List ℕ)
+    → number (2 ^ w) (in_sixteen place xs) ≡ 2 ^ (w * place) * number (2 ^ w) xs
 number-in_sixteen w place xs =
     number-zeros_above (2 ^ w) (16 - (place + length xs)) (replicate place 0 ++ xs) ∙ number-zeros_below w place xs
 
@@ -60,7 +68,8 @@ in_sixteen-AllBelow w place xs below =
 low_bytes-AllBelow : (size a : ℕ) → AllBelow 256 (take size (bytes_of a))
 low_bytes-AllBelow size a = AllBelow-take 256 size (bytes_of a) (bytes-AllBelow a)
 
-number-inserted : (size a b : ℕ) → size ≤ 8 → number 256 (in_sixteen (b % 8) (take size (bytes_of a))) ≡ inserted size a b
+number-inserted : (size a b : ℕ) → size ≤ 8
+    → number 256 (in_sixteen (b % 8) (take size (bytes_of a))) ≡ inserted size a b
 number-inserted size a b within =
     number-in_sixteen 8 (b % 8) (take size (bytes_of a))
     ∙ ap (λ m. 2 ^ (8 * (b % 8)) * m) (number-take 8 size (bytes_of a) (bytes-AllBelow a)
@@ -70,20 +79,23 @@ pub inserted_low_is : (size a b : ℕ) → size ≤ 8 → inserted size a b % 2 
 unfolding low_placed
 inserted_low_is size a b within =
     let xs = in_sixteen (b % 8) (take size (bytes_of a)) in
-    sym (number-take 8 8 xs (in_sixteen-AllBelow 8 (b % 8) (take size (bytes_of a)) (low_bytes-AllBelow size a)) ∙ ap (λ m. m % 2 ^ 64) (number-inserted size a b within))
+    sym (number-take 8 8 xs (in_sixteen-AllBelow 8 (b % 8) (take size (bytes_of a)) (low_bytes-AllBelow size a))
+    ∙ ap (λ m. m % 2 ^ 64) (number-inserted size a b within))
 
 pub inserted_high_is : (size a b : ℕ) → size ≤ 8 → inserted size a b / 2 ^ 64 ≡ high_placed size a b
 unfolding high_placed
 inserted_high_is size a b within =
     let xs = in_sixteen (b % 8) (take size (bytes_of a)) in
-    sym (number-drop 8 8 xs (in_sixteen-AllBelow 8 (b % 8) (take size (bytes_of a)) (low_bytes-AllBelow size a)) ∙ ap (λ m. m / 2 ^ 64) (number-inserted size a b within))
+    sym (number-drop 8 8 xs (in_sixteen-AllBelow 8 (b % 8) (take size (bytes_of a)) (low_bytes-AllBelow size a))
+    ∙ ap (λ m. m / 2 ^ 64) (number-inserted size a b within))
 
 pub zapped_is : (a b : ℕ) → zapped a b ≡ cleared (digits 2 8 b) a
 unfolding zapped cleared
 zapped_is a b = refl
 
 pub zapped_not_is : (a b : ℕ) → b < 2 ^ 64 → zapped a (complement b) ≡ cleared (inverted (digits 2 8 b)) a
-zapped_not_is a b small = zapped_is a (complement b) ∙ ap (λ marks. cleared marks a) (digits-inverted 8 64 b (omega arith) small)
+zapped_not_is a b small =
+    zapped_is a (complement b) ∙ ap (λ marks. cleared marks a) (digits-inverted 8 64 b (omega arith) small)
 
 -- ---- the marks of MSK
 
@@ -116,7 +128,8 @@ masked_low_is size a b within =
     let marks = in_sixteen (b % 8) (replicate size 1) in
     let long = length-marks size b within in
     zapped_is a (marked size b)
-    ∙ ap (λ xs. cleared xs a) (ap (λ m. digits 2 8 m) (sym (number-marks size b)) ∙ digits-number 1 8 marks (marks-AllBelow size b) (omega arith))
+    ∙ ap (λ xs. cleared xs a)
+    (ap (λ m. digits 2 8 m) (sym (number-marks size b)) ∙ digits-number 1 8 marks (marks-AllBelow size b) (omega arith))
 
 pub masked_high_is : (size a b : ℕ) → size ≤ 8 → zapped a (marked size b / 2 ^ 8) ≡ high_cleared size a b
 unfolding high_cleared
@@ -124,10 +137,13 @@ masked_high_is size a b within =
     let marks = in_sixteen (b % 8) (replicate size 1) in
     let high = drop 8 marks in
     let long : length high ≡ 8 = omega (arith, length-drop 8 marks, length-marks size b within) in
-    let n : marked size b / 2 ^ 8 ≡ number 2 high = ap (λ m. m / 2 ^ 8) (sym (number-marks size b)) ∙ sym (number-drop 1 8 marks (marks-AllBelow size b)) in
+    let n : marked size b / 2 ^ 8 ≡ number 2 high =
+    ap (λ m. m / 2 ^ 8) (sym (number-marks size b)) ∙ sym (number-drop 1 8 marks (marks-AllBelow size b)) in
     zapped_is a (marked size b / 2 ^ 8)
     ∙ ap (λ xs. cleared xs a)
-    (ap (λ m. digits 2 8 m) n ∙ (digits-number 1 8 high (AllBelow-drop 2 8 marks (marks-AllBelow size b)) (omega arith) ∙ take_all 8 high (omega arith)))
+    (ap (λ m. digits 2 8 m) n
+    ∙ (digits-number 1 8 high (AllBelow-drop 2 8 marks (marks-AllBelow size b)) (omega arith)
+    ∙ take_all 8 high (omega arith)))
 
 -- the marks as the code shifts them
 pub marked_is : (size b : ℕ) → size ≤ 8 → (1 * 2 ^ size % 2 ^ 64 - 1) * 2 ^ (b % 8) % 2 ^ 64 ≡ marked size b
@@ -135,7 +151,8 @@ marked_is size b within =
     let one = one_shl size 64 (omega arith) in
     let most = pow_below size 9 (omega arith) in
     let small : 2 ^ size - 1 < 2 ^ 9 = omega arith in
-    ap (λ m. (m - 1) * 2 ^ (b % 8) % 2 ^ 64) one ∙ (shl_whole (2 ^ size - 1) 9 (b % 8) 64 small (omega arith) ∙ omega arith)
+    ap (λ m. (m - 1) * 2 ^ (b % 8) % 2 ^ 64) one
+    ∙ (shl_whole (2 ^ size - 1) 9 (b % 8) 64 small (omega arith) ∙ omega arith)
 
 -- the bytes as the code shifts them
 pub placed_is : (size a b : ℕ) → size ≤ 8 → a % 2 ^ (8 * size) * 2 ^ (8 * (b % 8)) % 2 ^ 128 ≡ inserted size a b

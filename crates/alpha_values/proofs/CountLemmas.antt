@@ -1,5 +1,6 @@
 -- The library's counts of a number's digits against lists of bits.
-use Rattle.std.proofs.Common.{◌≡◌, ℕ, zero, suc, ◌+◌, ◌*◌, ◌/◌, ◌%◌, ◌^◌, ◌<◌, ◌≤◌, List, [], ◌∷◌, ◌++◌, length, reverse, sum, refl, sym, ap, ◌∙◌, ⊎_elim, arith}
+use Rattle.std.proofs.Common.{◌≡◌, ℕ, zero, suc, ◌+◌, ◌*◌, ◌/◌, ◌%◌, ◌^◌, ◌<◌, ◌≤◌, List, [], ◌∷◌, ◌++◌, length}
+use Rattle.std.proofs.Common.{reverse, sum, refl, sym, ap, ◌∙◌, ⊎_elim, arith}
 use Rattle.std.specs.Int.RustNames.{count_ones}
 use Rattle.std.specs.Int.{w64, leading_zeros, trailing_zeros}
 use lib.Count.{ones, ones_in, count_leading_zeros, count_trailing_zeros, under}
@@ -29,7 +30,8 @@ unfolding digits
 sum_digits zero n h = let none : n ≡ 0 = omega arith in sym (ap count_ones none ∙ one_digit 0 (omega arith))
 sum_digits (suc k) n h =
     let double : 2 ^ suc k ≡ 2 * 2 ^ k = omega arith in
-    sum_by-cons (λ (d : ℕ). d) (n % 2) (digits 2 k (n / 2)) ∙ omega (arith, ones-step n, sum_digits k (n / 2) (omega arith))
+    sum_by-cons (λ (d : ℕ). d) (n % 2) (digits 2 k (n / 2))
+    ∙ omega (arith, ones-step n, sum_digits k (n / 2) (omega arith))
 
 pub sum_bits : (n : ℕ) → n < 2 ^ 64 → count_ones n ≡ sum (bits_of n)
 sum_bits n h = sym (sum_digits 64 n h)
@@ -41,7 +43,8 @@ unfolding digits zeros_before_one count_trailing_zeros
 trailing_digits zero n = refl
 trailing_digits (suc k) n =
     ⊎_elim (λ (e : n % 2 ≡ 0).
-    cond-true _ _ _ (eq-eqb _ _ e) ∙ (ap suc (trailing_digits k (n / 2)) ∙ ap (λ d. under d (count_trailing_zeros k (n / 2))) (sym e)))
+    cond-true _ _ _ (eq-eqb _ _ e)
+    ∙ (ap suc (trailing_digits k (n / 2)) ∙ ap (λ d. under d (count_trailing_zeros k (n / 2))) (sym e)))
     (λ (e : n % 2 ≡ 0 → ⊥).
     let one : n % 2 ≡ 1 = omega arith in
     cond-false _ _ _ (ne_eqb _ _ e) ∙ ap (λ d. under d (count_trailing_zeros k (n / 2))) (sym one))
@@ -64,7 +67,8 @@ before-some (x ∷ xs) ys h =
     (cases_eq x 0)
 
 -- what stands behind a list of zeros goes on
-before-none : (xs ys : List ℕ) → zeros_before_one xs ≡ length xs → zeros_before_one (xs ++ ys) ≡ length xs + zeros_before_one ys
+before-none : (xs ys : List ℕ) → zeros_before_one xs ≡ length xs
+    → zeros_before_one (xs ++ ys) ≡ length xs + zeros_before_one ys
 unfolding zeros_before_one
 before-none [] ys h = omega arith
 before-none (x ∷ xs) ys h =
@@ -127,10 +131,23 @@ leading_digits (suc k) n h =
     let all : zeros_before_one xs ≡ length xs = omega (arith, leading_zero k, ap (count_leading_zeros k) zero_above) in
     ⊎_elim (λ (e : n ≡ 0).
     let low : n % 2 ≡ 0 = omega arith in
-    omega (arith, before-none xs (n % 2 ∷ []) all, one_zero (n % 2) low, leading_zero (suc k), ap (count_leading_zeros (suc k)) e))
+    omega (
+      arith,
+      before-none xs (n % 2 ∷ []) all,
+      one_zero (n % 2) low,
+      leading_zero (suc k),
+      ap (count_leading_zeros (suc k)) e,
+    ))
     (λ (e : n ≡ 0 → ⊥).
     let low : n % 2 ≡ 1 = omega arith in
-    omega (arith, before-none xs (n % 2 ∷ []) all, no_zero (n % 2) low, leading_step k n (omega arith), leading_zero k, ap (count_leading_zeros k) zero_above))
+    omega (
+      arith,
+      before-none xs (n % 2 ∷ []) all,
+      no_zero (n % 2) low,
+      leading_step k n (omega arith),
+      leading_zero k,
+      ap (count_leading_zeros k) zero_above,
+    ))
     (cases_eq n 0))
     (cases_lt 0 m)
 

@@ -1,9 +1,11 @@
 -- Whole numbers against the machine words that stand for them.
-use Rattle.std.proofs.Common.{◌≡◌, ℕ, ℤ, pos, negsuc, ◌+◌, ◌*◌, ◌%◌, ◌^◌, ◌<◌, ◌∙◌, ◌+ℤ◌, ◌*ℤ◌, refl, ap, sym, arith, rules, FitsSigned, bit_and}
+use Rattle.std.proofs.Common.{◌≡◌, ℕ, ℤ, pos, negsuc, ◌+◌, ◌*◌, ◌%◌, ◌^◌, ◌<◌, ◌∙◌, ◌+ℤ◌, ◌*ℤ◌, refl, ap, sym, arith}
+use Rattle.std.proofs.Common.{rules, FitsSigned, bit_and}
 use Rattle.std.specs.Prelude.{unsigned_abs, neg_ℤ, ◌-ℤ◌}
 use Rattle.std.specs.Int.{w8, w16, w32, w64, cast_signed, cast_unsigned, int_wrap}
 use Rattle.std.proofs.lemmas.Nat.{and_mask}
-use Rattle.std.proofs.lemmas.Int.{ints, int_rem_euclid_is, of_z-to_z, int_wrap-add_left, int_wrap-add_right, int_wrap-sub_right, int_wrap-mul_left, int_wrap-mul_right}
+use Rattle.std.proofs.lemmas.Int.{ints, int_rem_euclid_is, of_z-to_z, int_wrap-add_left, int_wrap-add_right}
+use Rattle.std.proofs.lemmas.Int.{int_wrap-sub_right, int_wrap-mul_left, int_wrap-mul_right}
 use Rattle.alpha_values.specs.Numbers.{signed, register_of, wrapped}
 
 pub longword_is : (n : ℕ) → cast_signed w32 (bit_and n 4294967295) ≡ signed w32 n
@@ -30,7 +32,8 @@ unfolding register_of
 register_is z k m e = ap unsigned_abs (int_rem_euclid_is z _ (2 ^ 64) k m (omega arith) refl e)
 
 -- a register plus a number of 64 bits
-pub sum_word : (n : ℕ) (z : ℤ) → n < 2 ^ 64 → FitsSigned w64 z → (n + cast_unsigned w64 z) % 2 ^ 64 ≡ register_of (pos n +ℤ z)
+pub sum_word : (n : ℕ) (z : ℤ) → n < 2 ^ 64 → FitsSigned w64 z
+    → (n + cast_unsigned w64 z) % 2 ^ 64 ≡ register_of (pos n +ℤ z)
 sum_word n (pos m) small fits = sym (register_is _ 0 (n + m) (omega (arith, ints)))
 sum_word n (negsuc m) small fits =
     let bound = fits.sfits in
@@ -54,10 +57,16 @@ unfolding int_wrap register_of
 register_wrapped z = register_signed (register_of z) (register_bound z)
 
 pub wrapped_sum : (a b : ℕ) → wrapped w64 (signed w64 a +ℤ signed w64 b) ≡ (a + b) % 2 ^ 64
-wrapped_sum a b = ap register_of (int_wrap-add_left w64 (pos a) (signed w64 b) ∙ int_wrap-add_right w64 (pos a) (pos b)) ∙ (register_wrapped (pos (a + b)) ∙ register_is (pos (a + b)) 0 (a + b) (omega (arith, ints)))
+wrapped_sum a b =
+    ap register_of (int_wrap-add_left w64 (pos a) (signed w64 b) ∙ int_wrap-add_right w64 (pos a) (pos b))
+    ∙ (register_wrapped (pos (a + b)) ∙ register_is (pos (a + b)) 0 (a + b) (omega (arith, ints)))
 
 pub wrapped_difference : (a b : ℕ) → wrapped w64 (signed w64 a -ℤ signed w64 b) ≡ register_of (pos a -ℤ pos b)
-wrapped_difference a b = ap register_of (int_wrap-add_left w64 (pos a) (neg_ℤ (signed w64 b)) ∙ int_wrap-sub_right w64 (pos a) (pos b)) ∙ register_wrapped (pos a -ℤ pos b)
+wrapped_difference a b =
+    ap register_of (int_wrap-add_left w64 (pos a) (neg_ℤ (signed w64 b)) ∙ int_wrap-sub_right w64 (pos a) (pos b))
+    ∙ register_wrapped (pos a -ℤ pos b)
 
 pub wrapped_product : (a b : ℕ) → wrapped w64 (signed w64 a *ℤ signed w64 b) ≡ a * b % 2 ^ 64
-wrapped_product a b = ap register_of (int_wrap-mul_left w64 (pos a) (signed w64 b) ∙ int_wrap-mul_right w64 (pos a) (pos b)) ∙ (register_wrapped (pos (a * b)) ∙ register_is (pos (a * b)) 0 (a * b) (omega (arith, ints)))
+wrapped_product a b =
+    ap register_of (int_wrap-mul_left w64 (pos a) (signed w64 b) ∙ int_wrap-mul_right w64 (pos a) (pos b))
+    ∙ (register_wrapped (pos (a * b)) ∙ register_is (pos (a * b)) 0 (a * b) (omega (arith, ints)))

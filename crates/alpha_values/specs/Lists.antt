@@ -1,10 +1,14 @@
--- Logic and the byte forms by lists of bits and bytes, the lowest first: `laws_of_lists` says that the results are these.
--- A place is Rb mod 8, a size 1, 2, 4 or 8 bytes.
-use Rattle.std.specs.Prelude.{ℕ, ◌+◌, ◌-◌, ◌%◌, ◌==◌, min, max, if◌then◌else◌, List, ◌++◌, length, take, drop, map, replicate}
+-- Logic and the byte forms by lists of bits and bytes, the lowest first: `laws_of_lists` says that the results are
+-- these. A place is Rb mod 8, a size 1, 2, 4 or 8 bytes.
+use Rattle.std.specs.Prelude.{ℕ, ◌+◌, ◌-◌, ◌%◌, ◌==◌, min, max, if◌then◌else◌, List, ◌++◌, length, take, drop, map}
+use Rattle.std.specs.Prelude.{replicate}
 use Rattle.alpha_words.specs.declared.Level.{Level}
 use Rattle.alpha_words.specs.Digits.{digits, number}
 use Rattle.alpha_table.specs.declared.op.Op.{Op}
-use Rattle.alpha_table.specs.declared.op.Op.TheVariants.{And, Bic, Bis, Ornot, Xor, Eqv, Amask, Mskbl, Extbl, Insbl, Mskwl, Extwl, Inswl, Mskll, Extll, Insll, Zap, Zapnot, Mskql, Extql, Insql, Mskwh, Inswh, Extwh, Msklh, Inslh, Extlh, Mskqh, Insqh, Extqh}
+use Rattle.alpha_table.specs.declared.op.Op.TheVariants.{And, Bic, Bis, Ornot, Xor, Eqv, Amask, Mskbl, Extbl, Insbl}
+use Rattle.alpha_table.specs.declared.op.Op.TheVariants.{Mskwl, Extwl, Inswl, Mskll, Extll, Insll, Zap, Zapnot, Mskql}
+use Rattle.alpha_table.specs.declared.op.Op.TheVariants.{Extql, Insql, Mskwh, Inswh, Extwh, Msklh, Inslh, Extlh, Mskqh}
+use Rattle.alpha_table.specs.declared.op.Op.TheVariants.{Insqh, Extqh}
 use Rattle.alpha_values.specs.Bits.{pairwise, bits_of, bytes_of}
 use Rattle.alpha_values.specs.Op.{features, result_of}
 
@@ -30,7 +34,8 @@ in_sixteen place xs = (replicate place 0 ++ xs) ++ replicate (16 - (place + leng
 unfoldable pub bytes_from : ℕ → ℕ → ℕ → ℕ
 bytes_from size a b = number 256 (take size (drop (b % 8) (bytes_of a)))
 
--- as many low bytes as the size has, of Ra moved up by as many places as are left above Rb's; the bytes that move in are 0
+-- as many low bytes as the size has, of Ra moved up by as many places as are left above Rb's; the bytes that move in
+-- are 0
 unfoldable pub bytes_above : ℕ → ℕ → ℕ → ℕ
 bytes_above size a b = number 256 (take size (replicate ((8 - b % 8) % 8) 0 ++ bytes_of a))
 

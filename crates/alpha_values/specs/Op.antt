@@ -1,11 +1,20 @@
--- The result of each operate instruction at a level, in the words of the Architecture Handbook's instruction descriptions,
--- from Ra, Rb and what the destination had. Registers are below 2 ^ 64.
-use Rattle.std.specs.Prelude.{ℕ, Bool, ◌-◌, ◌*◌, ◌/◌, ◌%◌, ◌^◌, ◌==◌, ◌+ℤ◌, ◌-ℤ◌, ◌*ℤ◌, pos, nat_lt, nat_le, int_lt, int_le, if◌then◌else◌, reverse, sum, bit_and, bit_or, bit_xor}
+-- The result of each operate instruction at a level, in the words of the Architecture Handbook's instruction
+-- descriptions, from Ra, Rb and what the destination had. Registers are below 2 ^ 64.
+use Rattle.std.specs.Prelude.{ℕ, Bool, ◌-◌, ◌*◌, ◌/◌, ◌%◌, ◌^◌, ◌==◌, ◌+ℤ◌, ◌-ℤ◌, ◌*ℤ◌, pos, nat_lt, nat_le, int_lt}
+use Rattle.std.specs.Prelude.{int_le, if◌then◌else◌, reverse, sum, bit_and, bit_or, bit_xor}
 use Rattle.std.specs.Int.{w8, w16, w32, w64, int_shr}
 use Rattle.alpha_words.specs.declared.Level.{Level}
 use Rattle.alpha_words.specs.declared.Level.TheVariants.{One, Two}
 use Rattle.alpha_table.specs.declared.op.Op.{Op}
-use Rattle.alpha_table.specs.declared.op.Op.TheVariants.{Addl, S4addl, Subl, S4subl, Cmpbge, S8addl, S8subl, Cmpult, Addq, S4addq, Subq, S4subq, Cmpeq, S8addq, S8subq, Cmpule, AddlV, SublV, Cmplt, AddqV, SubqV, Cmple, And, Bic, Cmovlbs, Cmovlbc, Bis, Cmoveq, Cmovne, Ornot, Xor, Cmovlt, Cmovge, Eqv, Amask, Cmovle, Cmovgt, Implver, Mskbl, Extbl, Insbl, Mskwl, Extwl, Inswl, Mskll, Extll, Insll, Zap, Zapnot, Mskql, Srl, Extql, Sll, Insql, Sra, Mskwh, Inswh, Extwh, Msklh, Inslh, Extlh, Mskqh, Insqh, Extqh, Mull, Mulq, Umulh, MullV, MulqV, Sextb, Sextw, Ctpop, Ctlz, Cttz}
+use Rattle.alpha_table.specs.declared.op.Op.TheVariants.{Addl, S4addl, Subl, S4subl, Cmpbge, S8addl, S8subl, Cmpult}
+use Rattle.alpha_table.specs.declared.op.Op.TheVariants.{Addq, S4addq, Subq, S4subq, Cmpeq, S8addq, S8subq, Cmpule}
+use Rattle.alpha_table.specs.declared.op.Op.TheVariants.{AddlV, SublV, Cmplt, AddqV, SubqV, Cmple, And, Bic, Cmovlbs}
+use Rattle.alpha_table.specs.declared.op.Op.TheVariants.{Cmovlbc, Bis, Cmoveq, Cmovne, Ornot, Xor, Cmovlt, Cmovge, Eqv}
+use Rattle.alpha_table.specs.declared.op.Op.TheVariants.{Amask, Cmovle, Cmovgt, Implver, Mskbl, Extbl, Insbl, Mskwl}
+use Rattle.alpha_table.specs.declared.op.Op.TheVariants.{Extwl, Inswl, Mskll, Extll, Insll, Zap, Zapnot, Mskql, Srl}
+use Rattle.alpha_table.specs.declared.op.Op.TheVariants.{Extql, Sll, Insql, Sra, Mskwh, Inswh, Extwh, Msklh, Inslh}
+use Rattle.alpha_table.specs.declared.op.Op.TheVariants.{Extlh, Mskqh, Insqh, Extqh, Mull, Mulq, Umulh, MullV, MulqV}
+use Rattle.alpha_table.specs.declared.op.Op.TheVariants.{Sextb, Sextw, Ctpop, Ctlz, Cttz}
 use Rattle.alpha_table.specs.declared.op.Cond.{Cond}
 use Rattle.alpha_table.specs.declared.op.Cond.TheVariants.{Lbc, Lbs, Eq, Ne, Lt, Le, Ge, Gt}
 use Rattle.alpha_words.specs.Digits.{digits, number}

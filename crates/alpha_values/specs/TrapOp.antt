@@ -23,7 +23,8 @@ exact AddqV a b = signed w64 a +ℤ signed w64 b
 exact SubqV a b = signed w64 a -ℤ signed w64 b
 exact MulqV a b = signed w64 a *ℤ signed w64 b
 
--- the size makes another number of the exact result, which lies outside the size's signed range: as a test, and as a fact
+-- the size makes another number of the exact result, which lies outside the size's signed range: as a test, and as a
+-- fact
 unfoldable pub overflow_of : TrapOp → ℕ → ℕ → Bool
 overflow_of op a b = not (int_eq (int_wrap (size_of op) (exact op a b)) (exact op a b))
 
@@ -34,12 +35,12 @@ Overflows op a b = IsTrue (overflow_of op a b)
 -- saturate the nearest bound, by wrap and by stop the one that is congruent to it
 abbrev pub completion_of : Completion → Width → ℤ → ℤ
 completion_of Saturate size z = saturate_signed size z
-completion_of how size z = int_wrap size z
+completion_of completion size z = int_wrap size z
 
 unfoldable pub completed_of : TrapOp → ℕ → ℕ → Completion → ℕ
-completed_of op a b how = register_of (completion_of how (size_of op) (exact op a b))
+completed_of op a b completion = register_of (completion_of completion (size_of op) (exact op a b))
 
 -- whether an overflow ends the program
 abbrev pub stops : Completion → Bool
 stops Stop = true
-stops how = false
+stops completion = false

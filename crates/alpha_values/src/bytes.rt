@@ -1,5 +1,6 @@
 ghost use Rattle.std.specs.Prelude.{◌≡◌, ◌*◌, ◌/◌, ◌%◌, ◌^◌, ◌<◌, ◌≤◌, ◌==◌, nat_le, if◌then◌else◌};
-ghost use Rattle.alpha_values.specs.Op.{complement, extracted_low, extracted_high, inserted, marked, zapped, bytes_compared};
+ghost use Rattle.alpha_values.specs.Op.{complement, extracted_low, extracted_high, inserted, marked, zapped};
+ghost use Rattle.alpha_values.specs.Op.{bytes_compared};
 
 /// EXTxL: the bytes of Ra from Rb's place on, as many as the size has (Architecture Handbook,
 /// section 4.6, as all of this file). A size is in bytes.

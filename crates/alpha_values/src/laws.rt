@@ -1,4 +1,5 @@
-ghost use Rattle.std.specs.Prelude.{◌≡◌, ℕ, ℤ, pos, ◌-ℤ◌, ◌+◌, ◌*◌, ◌/◌, ◌%◌, ◌^◌, ◌<◌, ◌≤◌, ◌↔◌, Some, false, FitsSigned, bit_and, bit_or, bit_xor};
+ghost use Rattle.std.specs.Prelude.{◌≡◌, ℕ, ℤ, pos, ◌-ℤ◌, ◌+◌, ◌*◌, ◌/◌, ◌%◌, ◌^◌, ◌<◌, ◌≤◌, ◌↔◌, Some, false};
+ghost use Rattle.std.specs.Prelude.{FitsSigned, bit_and, bit_or, bit_xor};
 ghost use Rattle.std.specs.Int.{w16};
 ghost use Rattle.alpha_words.specs.declared.Completion.TheVariants.{Wrap, Stop};
 ghost use Rattle.alpha_table.specs.declared.op.Op.TheVariants.{Addq, Subq, Mulq};
@@ -11,7 +12,8 @@ ghost use Rattle.alpha_values.specs.InSpan.{IsInSpan};
 ghost use Rattle.alpha_words.specs.Digits.{digits};
 ghost use Rattle.alpha_values.specs.Bits.{bits_of};
 ghost use Rattle.alpha_values.specs.Op.{complement, extracted_low, extracted_high, inserted, marked, zapped, result_of};
-ghost use Rattle.alpha_values.specs.Lists.{inverted, and_of, or_of, xor_of, bytes_from, bytes_above, low_placed, high_placed, cleared, low_cleared, high_cleared, on_lists};
+ghost use Rattle.alpha_values.specs.Lists.{inverted, and_of, or_of, xor_of, bytes_from, bytes_above, low_placed};
+ghost use Rattle.alpha_values.specs.Lists.{high_placed, cleared, low_cleared, high_cleared, on_lists};
 
 /// The laws of results: each fits a register. Quadword sums, differences and products are those of
 /// the unsigned operands modulo 2^64.
@@ -30,12 +32,12 @@ pub fn laws_of_results()
 pub fn laws_of_completion()
     ensures range { (op : _) (a b : ℕ)
         → Overflows op a b ↔ ¬ FitsSigned (size_of op) (exact op a b) }
-    ensures bound { (op : _) (a b : ℕ) (how : _) → completed_of op a b how < 2 ^ 64 }
+    ensures bound { (op : _) (a b : ℕ) (completion : _) → completed_of op a b completion < 2 ^ 64 }
     ensures wrap { (level : _) (row : _) (op : _) (a b old : ℕ) → trap_of row ≡ Some op
         → completed_of op a b Wrap ≡ result_of level row a b old }
     ensures stop { (op : _) (a b : ℕ) → completed_of op a b Stop ≡ completed_of op a b Wrap }
-    ensures exact { (op : _) (a b : ℕ) (how : _) → ¬ Overflows op a b
-        → completed_of op a b how ≡ register_of (exact op a b) }
+    ensures exact { (op : _) (a b : ℕ) (completion : _) → ¬ Overflows op a b
+        → completed_of op a b completion ≡ register_of (exact op a b) }
 {}
 
 /// The laws of lists: of registers, logic is what it does to each bit, and the byte forms, which shift

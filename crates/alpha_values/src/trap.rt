@@ -29,10 +29,10 @@ pub fn overflows(op: TrapOp, a: u64, b: u64) -> bool
 /// (Architecture Handbook, section 4.4), and by saturate the nearest bound. Stop has the value of
 /// wrap, since the instruction completes by it where nothing overflows.
 #[tactic(auto, unfolding(crate::specs::TrapOp::completed_of))]
-pub fn completed(op: TrapOp, a: u64, b: u64, how: Completion) -> u64
-    ensures { result ≡ completed_of op a b how }
+pub fn completed(op: TrapOp, a: u64, b: u64, completion: Completion) -> u64
+    ensures { result ≡ completed_of op a b completion }
 {
-    register(match how {
+    register(match completion {
         Completion::Wrap | Completion::Stop => wrapping(op, a, b),
         Completion::Saturate => saturating(op, a, b),
     })

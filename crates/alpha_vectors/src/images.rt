@@ -15,13 +15,13 @@ use std::alloc::Global;
 /// - `fronts BYTES`: the least size of a front that isn't told to be too short, of bytes of which no front is an image.
 /// - `fields NUMBERS|SEGMENTS`: the least bad field of code base, entry, stack bytes, level and code words, and of
 ///   segments by base, data bytes and zeroed bytes.
-/// - `build NUMBERS|CODE|DATA`: the bytes of the image of version 1 with these code base, data base, entry, zeroed bytes
-///   and stack bytes.
-/// - `pair CODE` and `bare LEVEL CODE`: the bytes of the image of version 2 with two segments of eight bytes at level 2,
-///   or with none.
+/// - `build NUMBERS|CODE|DATA`: the bytes of the image of version 1 with these code base, data base, entry, zeroed
+///   bytes and stack bytes.
+/// - `pair CODE` and `bare LEVEL CODE`: the bytes of the image of version 2 with two segments of eight bytes at level
+///   2, or with none.
 ///
-/// Bytes are hexadecimal, in parts with spaces between them, of which `*N` after one repeats it N times. In place of bytes
-/// an answer may be a fault.
+/// Bytes are hexadecimal, in parts with spaces between them, of which `*N` after one repeats it N times. In place of
+/// bytes an answer may be a fault.
 pub fn run(rt: &impl Print, alloc: Global, text: &str) -> anyhow::Result<()> {
     let mut same = 0u64;
     for line in text.lines().filter(|line| !line.starts_with('#')) {
@@ -110,8 +110,8 @@ fn answer_of(
     }
 }
 
-// Version, level, code base, entry, stack bytes and code words; the base of the first segment, all data bytes and the zeroed
-// bytes of the first segment; and each segment.
+// Version, level, code base, entry, stack bytes and code words; the base of the first segment, all data bytes and the
+// zeroed bytes of the first segment; and each segment.
 fn parts_of(alloc: Global, image: &Image) -> anyhow::Result<String> {
     let level = match image.level() {
         Level::One => 1,
@@ -199,8 +199,8 @@ fn has_its_data(alloc: Global, image: &Image) -> anyhow::Result<bool> {
     )
 }
 
-// The least size of a front that is refused for its length, where each below is refused as too short and each from it on
-// for its length.
+// The least size of a front that is refused for its length, where each below is refused as too short and each from it
+// on for its length.
 fn fronts(alloc: Global, text: &str) -> anyhow::Result<String> {
     let bytes = bytes_of(alloc, text)?;
     let size = bytes.len() as u64;

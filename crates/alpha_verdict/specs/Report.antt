@@ -11,5 +11,6 @@ place_address code_base place = (code_base + 4 * place) % 2 ^ 64
 -- `broken trigger A at B condition Cn` and a line feed
 unfoldable pub broken_line : Broken → ℕ → List ℕ
 broken_line b code_base =
-    codes "broken trigger " ++ hex_digits (place_address code_base b.trigger) ++ codes " at " ++ hex_digits (place_address code_base b.at)
+    codes "broken trigger " ++ hex_digits (place_address code_base b.trigger) ++ codes " at "
+    ++ hex_digits (place_address code_base b.at)
     ++ codes " condition C" ++ decimal (condition_number b.condition) ++ 10 ∷ []

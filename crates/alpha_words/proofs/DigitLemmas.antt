@@ -1,5 +1,6 @@
 -- Numbers and their digits in a base that is a power of 2.
-use Rattle.std.proofs.Common.{◌≡◌, ℕ, zero, suc, ◌+◌, ◌*◌, ◌/◌, ◌%◌, ◌^◌, ◌<◌, ◌≤◌, ◌∙◌, List, [], ◌∷◌, ◌++◌, length, take, drop, replicate, refl, ap, sym, arith}
+use Rattle.std.proofs.Common.{◌≡◌, ℕ, zero, suc, ◌+◌, ◌*◌, ◌/◌, ◌%◌, ◌^◌, ◌<◌, ◌≤◌, ◌∙◌, List, [], ◌∷◌, ◌++◌, length}
+use Rattle.std.proofs.Common.{take, drop, replicate, refl, ap, sym, arith}
 use Rattle.std.proofs.lemmas.Nat.{mod-pow-add, shr_high, mod_low, pow_pos, pow-add, mod_below, shr-shr}
 use Rattle.std.proofs.Math.Nat.{pow-suc, div-div-eq-div-mul}
 use Rattle.std.specs.Int.{bytes_low_first}
@@ -21,13 +22,20 @@ div_no_digits w n =
     ap (λ k. n / 2 ^ k) none ∙ omega arith
 
 -- a digit more at the low end
-pub mod_digit_more : (w count d n : ℕ) → d < 2 ^ w → (d + 2 ^ w * n) % 2 ^ (w * suc count) ≡ d + 2 ^ w * (n % 2 ^ (w * count))
+pub mod_digit_more : (w count d n : ℕ) → d < 2 ^ w
+    → (d + 2 ^ w * n) % 2 ^ (w * suc count) ≡ d + 2 ^ w * (n % 2 ^ (w * count))
 mod_digit_more w count d n small =
     let more : w * suc count ≡ w * count + w = omega arith in
     let order : d + 2 ^ w * n ≡ n * 2 ^ w + d = omega arith in
     ap (λ k. (d + 2 ^ w * n) % 2 ^ k) more
     ∙ (ap (λ m. m % 2 ^ (w * count + w)) order
-    ∙ omega (arith, mod-pow-add (n * 2 ^ w + d) (w * count) w, shr_high n w d small, mod_low n w d small, ap (λ m. m % 2 ^ (w * count) * 2 ^ w) (shr_high n w d small)))
+    ∙ omega (
+      arith,
+      mod-pow-add (n * 2 ^ w + d) (w * count) w,
+      shr_high n w d small,
+      mod_low n w d small,
+      ap (λ m. m % 2 ^ (w * count) * 2 ^ w) (shr_high n w d small),
+    ))
 
 pub div_digit_more : (w count d n : ℕ) → d < 2 ^ w → (d + 2 ^ w * n) / 2 ^ (w * suc count) ≡ n / 2 ^ (w * count)
 div_digit_more w count d n small =
@@ -55,20 +63,25 @@ unfolding digits
 length-digits base zero n = refl
 length-digits base (suc count) n = ap (λ k. suc k) (length-digits base count (n / base))
 
-pub number-take : (w count : ℕ) (ds : List ℕ) → AllBelow (2 ^ w) ds → number (2 ^ w) (take count ds) ≡ number (2 ^ w) ds % 2 ^ (w * count)
+pub number-take : (w count : ℕ) (ds : List ℕ) → AllBelow (2 ^ w) ds
+    → number (2 ^ w) (take count ds) ≡ number (2 ^ w) ds % 2 ^ (w * count)
 unfolding number
 number-take w zero ds h = sym (mod_no_digits w (number (2 ^ w) ds))
 number-take w (suc count) [] h = omega (arith, pow_pos (w * suc count))
-number-take w (suc count) (d ∷ ds) h = omega (arith, mod_digit_more w count d (number (2 ^ w) ds) h.0, ap (λ m. 2 ^ w * m) (number-take w count ds h.1))
+number-take w (suc count) (d ∷ ds) h =
+    omega (arith, mod_digit_more w count d (number (2 ^ w) ds) h.0, ap (λ m. 2 ^ w * m) (number-take w count ds h.1))
 
-pub number-drop : (w count : ℕ) (ds : List ℕ) → AllBelow (2 ^ w) ds → number (2 ^ w) (drop count ds) ≡ number (2 ^ w) ds / 2 ^ (w * count)
+pub number-drop : (w count : ℕ) (ds : List ℕ) → AllBelow (2 ^ w) ds
+    → number (2 ^ w) (drop count ds) ≡ number (2 ^ w) ds / 2 ^ (w * count)
 unfolding number
 number-drop w zero ds h = sym (div_no_digits w (number (2 ^ w) ds))
 number-drop w (suc count) [] h = omega (arith, pow_pos (w * suc count))
-number-drop w (suc count) (d ∷ ds) h = number-drop w count ds h.1 ∙ sym (div_digit_more w count d (number (2 ^ w) ds) h.0)
+number-drop w (suc count) (d ∷ ds) h =
+    number-drop w count ds h.1 ∙ sym (div_digit_more w count d (number (2 ^ w) ds) h.0)
 
 -- the digits of the number that digits write
-pub digits-number : (w count : ℕ) (ds : List ℕ) → AllBelow (2 ^ w) ds → count ≤ length ds → digits (2 ^ w) count (number (2 ^ w) ds) ≡ take count ds
+pub digits-number : (w count : ℕ) (ds : List ℕ) → AllBelow (2 ^ w) ds → count ≤ length ds
+    → digits (2 ^ w) count (number (2 ^ w) ds) ≡ take count ds
 unfolding number digits
 digits-number w zero ds h enough = refl
 digits-number w (suc count) [] h enough = absurd (omega arith)
@@ -81,7 +94,8 @@ digits-number w (suc count) (d ∷ ds) h enough =
     ∙ ap (λ xs. d ∷ xs) (ap (λ m. digits (2 ^ w) count m) high ∙ digits-number w count ds h.1 (omega arith))
 
 -- zeros below and above
-pub number-zeros_below : (w count : ℕ) (ds : List ℕ) → number (2 ^ w) (replicate count 0 ++ ds) ≡ 2 ^ (w * count) * number (2 ^ w) ds
+pub number-zeros_below : (w count : ℕ) (ds : List ℕ)
+    → number (2 ^ w) (replicate count 0 ++ ds) ≡ 2 ^ (w * count) * number (2 ^ w) ds
 unfolding number
 number-zeros_below w zero ds =
     let none : w * 0 ≡ 0 = omega arith in
@@ -121,7 +135,8 @@ higher_bytes : (k i v : ℕ) → bytes_low_first (suc i) k v ≡ digits 256 k (v
 unfolding digits
 higher_bytes zero i v = refl
 higher_bytes (suc k) i v =
-    let up : v / 256 ^ suc i / 256 ≡ v / 256 ^ suc (suc i) = div-div-eq-div-mul v (256 ^ suc i) 256 ∙ ap (λ n. v / n) (sym (pow-suc 256 (suc i))) in
+    let up : v / 256 ^ suc i / 256 ≡ v / 256 ^ suc (suc i) =
+    div-div-eq-div-mul v (256 ^ suc i) 256 ∙ ap (λ n. v / n) (sym (pow-suc 256 (suc i))) in
     ap (λ xs. v / 256 ^ suc i % 256 ∷ xs) (higher_bytes k (suc i) v ∙ ap (digits 256 k) (sym up))
 
 -- the library's bytes of a number

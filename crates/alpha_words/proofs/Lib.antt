@@ -1,3 +1,3 @@
-pub mod Members
+pub mod SetMembers
 pub mod DigitLemmas
 pub mod RegLemmas

@@ -10,7 +10,9 @@ unfolding put
 length-put l i a = cond_both (eqb i 31) l (set l i a) (λ k. length k ≡ length l) (λ e. refl) (λ e. length-set l i a)
 
 -- writes of two registers
-put_comm_by : (l : List ℕ) (i j a b : ℕ) (p q : Bool) → i ≢ j → cond q (cond p l (set l i a)) (set (cond p l (set l i a)) j b) ≡ cond p (cond q l (set l j b)) (set (cond q l (set l j b)) i a)
+put_comm_by : (l : List ℕ) (i j a b : ℕ) (p q : Bool) → i ≢ j
+    → cond q (cond p l (set l i a)) (set (cond p l (set l i a)) j b)
+    ≡ cond p (cond q l (set l j b)) (set (cond q l (set l j b)) i a)
 put_comm_by l i j a b true true ne = refl
 put_comm_by l i j a b true false ne = refl
 put_comm_by l i j a b false true ne = refl
@@ -21,7 +23,8 @@ unfolding put
 put_comm l i j a b ne = put_comm_by l i j a b (eqb i 31) (eqb j 31) ne
 
 -- two writes of one register
-put-put_by : (l : List ℕ) (i a b : ℕ) (p : Bool) → cond p (cond p l (set l i a)) (set (cond p l (set l i a)) i b) ≡ cond p l (set l i b)
+put-put_by : (l : List ℕ) (i a b : ℕ) (p : Bool)
+    → cond p (cond p l (set l i a)) (set (cond p l (set l i a)) i b) ≡ cond p l (set l i b)
 put-put_by l i a b true = refl
 put-put_by l i a b false = set-set l i a b
 

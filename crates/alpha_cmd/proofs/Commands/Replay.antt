@@ -1,5 +1,6 @@
 -- The laws of `replay`, and what leads to its answers.
-use Rattle.std.proofs.Common.{◌≡◌, ◌∙◌, ◌⊎◌, ℕ, List, All, Option, None, Some, Result, Ok, Err, IfErr, refl, sym, ap, subst, inl, inr}
+use Rattle.std.proofs.Common.{◌≡◌, ◌∙◌, ◌⊎◌, ℕ, List, All, Option, None, Some, Result, Ok, Err, IfErr, refl, sym, ap}
+use Rattle.std.proofs.Common.{subst, inl, inr}
 use Rattle.alpha_io.specs.Files.{Files, KeepsFiles}
 use Rattle.alpha_image.specs.Parts.{Parts as Image, IsByte}
 use Rattle.alpha_image.proofs.Form.{IsBytes-All}
@@ -10,12 +11,12 @@ use Rattle.alpha_replay.specs.Journal.{Parts, IsJournal, spelling}
 use Rattle.alpha_replay.specs.JournalFault.{first_fault}
 use Rattle.alpha_replay.specs.Reading.{parts_of}
 use Rattle.alpha_replay.specs.Replay.{replayed}
-use Rattle.alpha_replay.proofs.Spelled.{one_journal, first_fault-spelling, no_fault}
+use Rattle.alpha_replay.proofs.JournalSpelling.{one_journal, journal_first_fault-spelling, journal-no_fault}
 use Rattle.alpha_cmd.specs.declared.status.Status.TheVariants.{BadJournal, NotARun, NoMemory}
 use Rattle.alpha_cmd.specs.declared.stop.Stop.{Stop}
-use Rattle.alpha_cmd.specs.declared.stop.Stop.TheVariants.{Said}
+use Rattle.alpha_cmd.specs.declared.stop.Stop.TheVariants.{OfStatus}
 use Rattle.alpha_cmd.specs.Status.{status_line}
-use Rattle.alpha_cmd.specs.Outcome.{goes, stops, Then, Gives}
+use Rattle.alpha_cmd.specs.Outcome.{continues, stops, Then, Gives}
 use Rattle.alpha_cmd.specs.Image.{Reads, ImageOf}
 use Rattle.alpha_cmd.specs.Answer.{Answer}
 use Rattle.alpha_cmd.specs.AnswerBy.{World}
@@ -27,31 +28,38 @@ use Rattle.alpha_cmd.proofs.Forms.{IsLawfulForm, is_fault}
 
 -- ---- a journal
 
-spells_some : (bytes : List ℕ) → All IsByte bytes → (fault : Option JournalFault) → first_fault bytes ≡ fault → HasOutcome (SpellsJournal bytes)
-spells_some bytes all None e = (goes (parts_of bytes), no_fault bytes (IsBytes-All bytes all) e)
-spells_some bytes all (Some fault) e = (stops (BadJournal fault) (status_line (BadJournal fault)), ((fault, refl, e), refl))
+spells_some : (bytes : List ℕ) → All IsByte bytes → (fault : Option JournalFault) → first_fault bytes ≡ fault
+    → HasOutcome (SpellsJournal bytes)
+spells_some bytes all None e = (continues (parts_of bytes), journal-no_fault bytes (IsBytes-All bytes all) e)
+spells_some bytes all (Some fault) e =
+    (stops (BadJournal fault) (status_line (BadJournal fault)), ((fault, refl, e), refl))
 
-SpellsJournal-lawful : (told whole there : Type 0) (bytes : List ℕ) → (whole → All IsByte bytes) → Lawful told whole there (SpellsJournal bytes)
+SpellsJournal-lawful : (told whole there : Type 0) (bytes : List ℕ) → (whole → All IsByte bytes)
+    → Lawful told whole there (SpellsJournal bytes)
 SpellsJournal-lawful told whole there bytes all =
-    Faults-lawful (λ p. IsJournal p × (bytes ≡ spelling p)) BadJournal (first_fault bytes) Some (λ f g e. cc) (λ f. refl)
-    (λ a b h g. one_journal a b h.0 g.0 (sym h.1 ∙ g.1)) (λ a f h first. let none = ap first_fault h.1 ∙ first_fault-spelling a h.0 in cc)
+    Faults-lawful (λ p. IsJournal p × (bytes ≡ spelling p)) BadJournal (first_fault bytes) Some (λ f g e. cc)
+    (λ f. refl)
+    (λ a b h g. one_journal a b h.0 g.0 (sym h.1 ∙ g.1))
+    (λ a f h first. let none = ap first_fault h.1 ∙ journal_first_fault-spelling a h.0 in cc)
     (λ h. spells_some bytes (all h) (first_fault bytes) refl)
 
 -- ---- its run
 
-plays_some : (image : Image) (p : Parts) (answer : Result Replayed ReplayFault) → replayed image p ≡ answer → HasOutcome (Plays image p)
-plays_some image p (Ok r) e = (goes r, e)
+plays_some : (image : Image) (p : Parts) (answer : Result Replayed ReplayFault) → replayed image p ≡ answer
+    → HasOutcome (Plays image p)
+plays_some image p (Ok r) e = (continues r, e)
 plays_some image p (Err fault) e = (stops (NotARun fault) (status_line (NotARun fault)), ((fault, refl, e), refl))
 
 Plays-lawful : (told whole there : Type 0) (image : Image) (p : Parts) → Lawful told whole there (Plays image p)
 Plays-lawful told whole there image p =
-    Faults-lawful (λ r. replayed image p ≡ Ok r) NotARun (replayed image p) Err (λ f g e. cc) (λ f. refl) (λ r t h g. cc) (λ r f h none. cc)
+    Faults-lawful (λ r. replayed image p ≡ Ok r) NotARun (replayed image p) Err (λ f g e. cc) (λ f. refl)
+    (λ r t h g. cc) (λ r f h none. cc)
     (λ h. plays_some image p (replayed image p) refl)
 
 -- ---- the command
 
-pub lawful : (file journal : List ℕ) (w : World) → IsLawfulForm (form file journal) (there file journal) w
-lawful file journal w = record {
+pub replay_form-lawful : (file journal : List ℕ) (w : World) → IsLawfulForm (form file journal) (there file journal) w
+replay_form-lawful file journal w = record {
   stages =
       Then-lawful {R = RunOf w.files file journal} {S = λ r. Gives (shown w.input r)}
       (Then-lawful {R = ImageOf w.files file} {S = λ image. Then (JournalOf w.files journal) (Plays image)}
@@ -70,12 +78,16 @@ lawful file journal w = record {
 -- ---- its answers
 
 -- a journal that is read after the image
-pub journal_after : (a b : Files) (name : List ℕ) (p : Parts) → KeepsFiles a b → JournalOf b name (goes p) → JournalOf a name (goes p)
-journal_after a b name p kept h = subst (λ f. JournalOf f name (goes p)) (kept_same a b kept) h
+pub journal_after : (a b : Files) (name : List ℕ) (p : Parts) → KeepsFiles a b → JournalOf b name (continues p)
+    → JournalOf a name (continues p)
+journal_after a b name p kept h = subst (λ f. JournalOf f name (continues p)) (kept_same a b kept) h
 
 -- a journal that is no run, or want of memory
-pub played_by : (shelf : Type 0) (a : Files) (file name : List ℕ) (image : Image) (p : Parts) (r : Result Replayed Stop) → ImageOf a file (goes image)
-    → JournalOf a name (goes p) → IfErr r (λ s. Plays image p (stops (stop_status s) (stop_line s)) ⊎ (s ≡ Said NoMemory)) → IfErr r (StopsBy (RunOf a file name) shelf)
+pub played_by : (shelf : Type 0) (a : Files) (file name : List ℕ) (image : Image) (p : Parts) (r : Result Replayed Stop)
+    → ImageOf a file (continues image)
+    → JournalOf a name (continues p)
+    → IfErr r (λ s. Plays image p (stops (stop_status s) (stop_line s)) ⊎ (s ≡ OfStatus NoMemory))
+    → IfErr r (StopsBy (RunOf a file name) shelf)
 played_by shelf a file name image p (Ok x) found spelled h = tt
 played_by shelf a file name image p (Err s) found spelled (inl h) = inl (inr (image, found, inr (p, spelled, h)))
 played_by shelf a file name image p (Err s) found spelled (inr e) = inr (inl e)

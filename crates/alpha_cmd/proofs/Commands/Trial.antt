@@ -7,8 +7,8 @@ use Rattle.alpha_cmd.specs.Commands.Trial.{form}
 use Rattle.alpha_cmd.proofs.Lawful.{Gives-lawful}
 use Rattle.alpha_cmd.proofs.Forms.{IsLawfulForm, is_fault}
 
-pub lawful : (blocks : ℕ) (w : World) → IsLawfulForm (form blocks) (λ w. Unit {0}) w
-lawful blocks w = record {
+pub trial_form-lawful : (blocks : ℕ) (w : World) → IsLawfulForm (form blocks) (λ w. Unit {0}) w
+trial_form-lawful blocks w = record {
   stages = Gives-lawful (done_with w.input (trial_text blocks));
   ends = λ a h. inl (ap (λ (x : Answer). is_fault x.status) h);
   status = λ a h. ap (λ (x : Answer). x.status) h;

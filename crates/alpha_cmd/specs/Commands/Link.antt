@@ -19,7 +19,7 @@ use Rattle.alpha_cmd.specs.Outcome.{Outcome, Either, Then, Each}
 use Rattle.alpha_cmd.specs.Status.{Says}
 use Rattle.alpha_cmd.specs.Image.{Reads}
 use Rattle.alpha_cmd.specs.AnswerBy.{World}
-use Rattle.alpha_cmd.specs.Form.{Form, Kind, keeps_last, making, making_there}
+use Rattle.alpha_cmd.specs.Form.{Form, Kind, keeps_last, making_form, making_there}
 
 -- ---- the stages
 
@@ -50,15 +50,16 @@ NoLink entry modules status = (fault : LinkFault) × (status ≡ BadLink fault) 
 -- bytes are the spelling of the image that modules link to
 abbrev pub IsLinked : List ℕ → List ModuleParts → List ℕ → Type 0
 IsLinked entry modules bytes =
-    (image : Parts) × IsImage image × ((linked modules entry ≡ Ok (program_of image)) × (bytes ≡ images.spelling image))
+    (image : Parts) × IsImage image
+    × ((linked modules entry ≡ Ok (program_of image)) × (bytes ≡ images.image_spelling image))
 
 -- the bytes of their image
 abbrev pub Links : List ℕ → List ModuleParts → Outcome (List ℕ) → Type 0
 Links entry modules = Either (IsLinked entry modules) (Says (NoLink entry modules))
 
 -- all files are read, then each is read as a module, and then these are linked
-abbrev pub Makes : Files → List ℕ → List (List ℕ) → Outcome (List ℕ) → Type 0
-Makes files entry names = Then (FilesOf files names) (λ all. Then (ModulesOf all) (Links entry))
+abbrev pub LinksFiles : Files → List ℕ → List (List ℕ) → Outcome (List ℕ) → Type 0
+LinksFiles files entry names = Then (FilesOf files names) (λ all. Then (ModulesOf all) (Links entry))
 
 -- ---- the command
 
@@ -66,10 +67,10 @@ abbrev pub kind : List ℕ → Kind
 kind out = keeps_last out
 
 abbrev pub form : List ℕ → List ℕ → List (List ℕ) → Form
-form entry out names = making (λ w. Makes w.files entry names) out
+form entry out names = making_form (λ w. LinksFiles w.files entry names) out
 
 abbrev pub there : List ℕ → List ℕ → List (List ℕ) → World → Type 0
-there entry out names = making_there names (λ w. Makes w.files entry names) out
+there entry out names = making_there names (λ w. LinksFiles w.files entry names) out
 
 -- ---- what it leaves
 
@@ -86,23 +87,25 @@ IsMade m = (source : List ℕ) × (made_module source ≡ Ok m)
 
 -- this name has the spelling of a module, a good one or one that a source makes, no place of whose code is broken
 abbrev pub HasAccepted : Files → List ℕ → Type 0
-HasAccepted files name = (m : ModuleParts) × (IsModule m ⊎ IsMade m) × (HasFile files name (spelling m) × IsAccepted m.words)
+HasAccepted files name =
+    (m : ModuleParts) × (IsModule m ⊎ IsMade m) × (HasFile files name (spelling m) × IsAccepted m.words)
 
--- Where the old files are told, those of these names spell modules, in their order, and where the new ones are, another has the
--- spelling of the image that these link to. Where no place of a module's code is broken, and that holds of each, none of the
--- image's code is, and it can be restarted after each late trap. So it is where the old files are told, and each of these has
--- the spelling of such a module.
+-- Where the old files are told, those of these names spell modules, in their order, and where the new ones are, another
+-- has the spelling of the image that these link to. Where no place of a module's code is broken, and that holds of
+-- each, none of the image's code is, and it can be restarted after each late trap. So it is where the old files are
+-- told, and each of these has the spelling of such a module.
 pub record KeepsLink (entry out : List ℕ) (names : List (List ℕ)) (old new : Files) : Type 0 where
   pub modules : List ModuleParts
   pub image : Parts
   pub read : Spell old names modules
   pub good : IsImage image
   pub links : linked modules entry ≡ Ok (program_of image)
-  pub kept : HasFile new out (images.spelling image)
+  pub kept : HasFile new out (images.image_spelling image)
   pub accepted : All (λ m. IsAccepted m.words) modules → IsAccepted image.words × IsRestartable image
   pub restarts : IsSome old → All (HasAccepted old) names → IsAccepted image.words × IsRestartable image
 
 -- that is so where the command is done
 abbrev pub KeepsLinks : List (List ℕ) → Status → Files → Files → Type 0
-KeepsLinks words status old new = (entry out : List ℕ) (files : List (List ℕ)) → link_words.Asks words entry out files
+KeepsLinks words status old new =
+    (entry out : List ℕ) (files : List (List ℕ)) → link_words.AsksToLink words entry out files
     → status ≡ Done 0 → KeepsLink entry out files old new

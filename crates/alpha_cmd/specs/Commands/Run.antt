@@ -17,8 +17,8 @@ use Rattle.alpha_cmd.specs.Form.{Form, Kind, IsThere, needs_files_and_input, str
 abbrev pub shown_by : Bool → List Event → Stepped → Shown
 shown_by watch events at = shown watch (record { at = at; events = events; left = [] })
 
--- Over an input that is told, a run shows what the sequential run from the start does. Over another it shows what such a run
--- does.
+-- Over an input that is told, a run shows what the sequential run from the start does. Over another it shows what such
+-- a run does.
 abbrev pub MayShow : RunOptions → Option (List ℕ) → Parts → Shown → Type 0
 MayShow options None image s = (r : RunByReads options image) × (s ≡ shown_by options.watch r.events r.at)
 MayShow options (Some input) image s = s ≡ sequential (program_by options image) input options.steps options.watch

@@ -1,4 +1,5 @@
--- `debug FILE`: what a session of the debugger on the image's program tells, its status, and what it leaves of its script.
+-- `debug FILE`: what a session of the debugger on the image's program tells, its status, and what it leaves of its
+-- script.
 use Rattle.std.specs.Prelude.{◌≡◌, ◌⊎◌, ℕ, ◌+◌, ◌≤◌, List, [], length, Option, Some, None}
 use Rattle.alpha_pal.specs.CallEffect.{Takes}
 use Rattle.alpha_image.specs.Parts.{Parts}

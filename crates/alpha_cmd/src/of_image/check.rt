@@ -12,12 +12,12 @@ use crate::{Status, image};
 use alpha_image::Image;
 
 /// Judges an image.
-pub(crate) fn judged(image: &Image) -> Decision
+pub(crate) fn check_image(image: &Image) -> Decision
     ensures accepted { result.status ≡ Status.Done 0 → IsAccepted image.now.words }
     ensures answer { (w : World)
         → AnswerBy (images.on asked.Check image.now).steps w (answer_in w.input result) }
 {
-    match image::judged(image) {
+    match image::require_accepted(image) {
         Ok(()) => Decision::accepted(),
         Err(stop) => Decision::stopped(stop),
     }

@@ -2,7 +2,7 @@
 
 ghost use Rattle.alpha_request.specs.declared.request.ImageCommand.TheVariants as asked;
 ghost use Rattle.alpha_cmd.specs.OfImage.Debug.{LeavesTail, script_most};
-ghost use Rattle.alpha_cmd.specs.Does.{Does};
+ghost use Rattle.alpha_cmd.specs.CommandEffect.{CommandEffect};
 ghost use Rattle.alpha_cmd.specs.OfImage as images;
 
 use crate::Status;
@@ -21,14 +21,15 @@ pub(crate) fn session<H: Shelf, S: Source, K: Sink, N: Sink>(
     image: Image,
     devices: &mut Devices<H, S, K, N>,
 ) -> Result<Decision, Failed>
-    ensures does { Does H.Shelf S.Source K.Sink N.Sink (images.on asked.Debug image) result devices.old devices.new }
+    ensures does { CommandEffect H.Shelf S.Source K.Sink N.Sink
+        (images.on asked.Debug image) result devices.old devices.new }
     ensures script { LeavesTail script_most (S.left devices.old.input) (S.left devices.new.input) }
 {
     match debug(alloc, image, &mut devices.input, &mut devices.out) {
-        DebugEnd::Done => Ok(Decision::said(Status::Done(0))),
-        DebugEnd::TooLarge => Ok(Decision::said(Status::TooLarge(SCRIPT_LIMIT as u64))),
-        DebugEnd::InputFault => Ok(Decision::said(Status::InputFault)),
+        DebugEnd::Done => Ok(Decision::of_status(Status::Done(0))),
+        DebugEnd::TooLarge => Ok(Decision::of_status(Status::TooLarge(SCRIPT_LIMIT as u64))),
+        DebugEnd::InputFault => Ok(Decision::of_status(Status::InputFault)),
         DebugEnd::SinkFault => Err(Failed),
-        DebugEnd::NoMemory => Ok(Decision::said(Status::NoMemory)),
+        DebugEnd::NoMemory => Ok(Decision::of_status(Status::NoMemory)),
     }
 }

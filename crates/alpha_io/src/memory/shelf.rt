@@ -1,10 +1,12 @@
-ghost use Rattle.std.specs.Prelude.{◌≡◌, ◌≢◌, ◌⊎◌, ◌↔◌, ◌-◌, ◌<◌, ℕ, List, length, min, Some, None, IfOk, OnOk, OnErr, IsErr, IsSomeAnd, MatchOption, Contains, option_copied, false};
+ghost use Rattle.std.specs.Prelude.{◌≡◌, ◌≢◌, ◌⊎◌, ◌↔◌, ◌-◌, ◌<◌, ℕ, List, length, min, Some, None, IfOk, OnOk, OnErr};
+ghost use Rattle.std.specs.Prelude.{IsErr, IsSomeAnd, MatchOption, Contains, option_copied, false};
 ghost use Rattle.std.specs.Io.{ReadsAtMost};
 ghost use Rattle.std.specs.FinMap as map;
 ghost use Rattle.alpha_io.specs.History.{Kept, piece_reply};
 ghost use Rattle.alpha_io.specs.Faults.{HasCause, HasCauseOr};
 ghost use Rattle.alpha_io.specs.Files.{IsPiece};
-ghost use Rattle.alpha_io.specs.ShelfState.{file_map, shelf_started, shelf_with, shelf_counted, shelf_failed, shelf_kept};
+ghost use Rattle.alpha_io.specs.ShelfState.{file_map, shelf_started, shelf_with, shelf_counted, shelf_failed};
+ghost use Rattle.alpha_io.specs.ShelfState.{shelf_kept};
 
 use super::{copy_piece, is_listed};
 use crate::fault::next_count;

@@ -100,7 +100,7 @@ impl NullSink {
     /// A sink without a fault.
     pub fn new() -> NullSink
         ensures untold { ⟦<NullSink as Sink>⟧.written result ≡ None }
-        ensures calm { ⟦<NullSink as Sink>⟧.faults result ≡ 0 }
+        ensures faults_unchanged { ⟦<NullSink as Sink>⟧.faults result ≡ 0 }
     {
         NullSink
     }

@@ -19,12 +19,14 @@ word_of Module = codes "module"
 abbrev pub app : App
 app = with_rule file_app (word (codes "out"))
 
-abbrev pub made : SourceCommand → List Row → Option Command
-made what rows = option_and_then (λ file. option_map (make what file) (first_of (codes "out") rows)) (first_of (codes "file") rows)
+abbrev pub make_of_rows : SourceCommand → List Row → Option Command
+make_of_rows command rows =
+    option_and_then (λ file. option_map (make command file) (first_of (codes "out") rows))
+    (first_of (codes "file") rows)
 
 abbrev pub spoken : SourceCommand → Spoken
-spoken what = record { app = app; made = made what }
+spoken command = record { app = app; made = make_of_rows command }
 
 -- words that ask for it
-abbrev pub Asks : SourceCommand → List Text → Text → Text → Type 0
-Asks what words file out = AsksBy (word_of what) (spoken what) (make what file out) words
+abbrev pub AsksToMake : SourceCommand → List Text → Text → Text → Type 0
+AsksToMake command words file out = AsksBy (word_of command) (spoken command) (make command file out) words

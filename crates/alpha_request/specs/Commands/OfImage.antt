@@ -14,12 +14,12 @@ word_of Check = codes "check"
 word_of Dis = codes "dis"
 word_of Debug = codes "debug"
 
-abbrev pub made : ImageCommand → List Row → Option Command
-made what rows = option_map (of_image what) (first_of (codes "file") rows)
+abbrev pub of_image_of_rows : ImageCommand → List Row → Option Command
+of_image_of_rows command rows = option_map (of_image command) (first_of (codes "file") rows)
 
 abbrev pub spoken : ImageCommand → Spoken
-spoken what = record { app = file_app; made = made what }
+spoken command = record { app = file_app; made = of_image_of_rows command }
 
 -- words that ask for it
-abbrev pub Asks : ImageCommand → List Text → Text → Type 0
-Asks what words file = AsksBy (word_of what) (spoken what) (of_image what file) words
+abbrev pub AsksOfImage : ImageCommand → List Text → Text → Type 0
+AsksOfImage command words file = AsksBy (word_of command) (spoken command) (of_image command file) words

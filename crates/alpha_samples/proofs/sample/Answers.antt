@@ -16,7 +16,8 @@ build-requires c =
 pub returns : goal.returns
 returns c =
     let words : words_of c.deref.result.now ≡ c.args.words.now =
-    ap words_of (c.deref.ensures.value ∙ c.in_ok-code.ensures) ∙ words_of-words c.args.words.now (λ k. omega (arith, c.type_inv.words k)) in
+    ap words_of (c.deref.ensures.value ∙ c.in_ok-code.ensures)
+    ∙ words_of-words c.args.words.now (λ k. omega (arith, c.type_inv.words k)) in
     let code = c.deref.result.now in
     IfOk-weaker c.build.result
     (λ (image : Parts). image ≡ record (sample c.args.words.now c.args.zeroed) { words = words_of code })

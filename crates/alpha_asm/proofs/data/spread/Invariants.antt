@@ -1,4 +1,4 @@
-use Rattle.alpha_asm.proofs.Spreading.{Spreads}
+use Rattle.alpha_asm.proofs.DataGaps.{Spreads}
 use Rattle.alpha_asm.proofs.data.spread.Given as goal
 
 abbrev pub invariant-loop-gap : goal.invariant-loop-gap

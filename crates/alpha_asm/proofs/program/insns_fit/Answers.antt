@@ -9,8 +9,11 @@ pub loop-insn-preserved : goal.loop-insn-preserved
 loop-insn-preserved c =
     let before = take c.loop-insn.insn-index c.args.code.now in
     let t : take (c.loop-insn.insn-index + 1) c.args.code.now ≡ before ++ c.insn-item.result ∷ [] =
-    take_more c.args.code.now c.loop-insn.insn-index c.insn-item.result c.loop-insn-test.true ∙ ap (λ x. before ++ x ∷ []) (sym c.insn-item.is) in
-    subst (All IsInsn) (sym t) (All-append IsInsn before (c.insn-item.result ∷ []) c.loop-insn.invariant (All-cons IsInsn c.insn-item.result [] c.form-form.ensures.good (All-nil IsInsn)))
+    take_more c.args.code.now c.loop-insn.insn-index c.insn-item.result c.loop-insn-test.true
+    ∙ ap (λ x. before ++ x ∷ []) (sym c.insn-item.is) in
+    subst (All IsInsn) (sym t)
+    (All-append IsInsn before (c.insn-item.result ∷ []) c.loop-insn.invariant
+    (All-cons IsInsn c.insn-item.result [] c.form-form.ensures.good (All-nil IsInsn)))
 
 pub returns : goal.returns
 returns c =

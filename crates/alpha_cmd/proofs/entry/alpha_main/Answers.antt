@@ -1,17 +1,18 @@
 use Rattle.std.proofs.Common.{◌≡◌, ◌⊎◌, ℕ, List, [], refl, subst, inl, inr, arith}
-use Rattle.alpha_io.proofs.Shelved.{KeepsFiles-refl}
+use Rattle.alpha_io.proofs.ShelfLaws.{KeepsFiles-refl}
 use Rattle.alpha_cmd.specs.declared.status.Status.TheVariants.{Done, SinkFault, NoMemory}
 use Rattle.alpha_cmd.specs.Accepts.{Accepts}
 use Rattle.alpha_cmd.specs.Alike.{Alike}
 use Rattle.alpha_cmd.specs.AnswerBy.{told}
-use Rattle.alpha_cmd.specs.Asks.{Asks}
+use Rattle.alpha_cmd.specs.Asks.{AsksFor}
 use Rattle.alpha_cmd.specs.Call.{called}
 use Rattle.alpha_cmd.specs.Checked.{Checked}
 use Rattle.alpha_cmd.specs.Commands.Link.{KeepsLinks}
-use Rattle.alpha_cmd.specs.Makings.Module.{KeepsModules}
+use Rattle.alpha_cmd.specs.SourceCommands.Module.{KeepsModules}
 use Rattle.alpha_cmd.specs.Commands.Record.{KeepsUnder}
 use Rattle.alpha_cmd.specs.Fixed.{Fixes}
-use Rattle.alpha_cmd.specs.Promises.{EndsWhole, EndsCut, GivesOne, GivesThe, SparesFiles, TakesInput, LeavesScript, EndsAsked, LosesNone}
+use Rattle.alpha_cmd.specs.Promises.{EndsWhole, EndsCut, GivesOne, GivesThe, SparesFiles, TakesInput, LeavesScript}
+use Rattle.alpha_cmd.specs.Promises.{EndsAsked, LosesNone}
 use Rattle.alpha_cmd.specs.Ran.{Ran}
 use Rattle.alpha_cmd.specs.RunsAsked.{RunsAsked}
 use Rattle.alpha_cmd.specs.ReadsNothing.{Unread, UnreadAlike}
@@ -19,9 +20,9 @@ use Rattle.alpha_cmd.specs.Replayed.{ShowsRuns}
 use Rattle.alpha_cmd.specs.Replied.{Replies}
 use Rattle.alpha_cmd.specs.Restarts.{Restarts}
 use Rattle.alpha_cmd.specs.ToldRun.{RanTold}
-use Rattle.alpha_cmd.proofs.JournalStatus.{no_end}
+use Rattle.alpha_cmd.proofs.JournalStatus.{journal_status-no_end}
 use Rattle.alpha_cmd.proofs.RunsOnReplies.{memory_unended}
-use Rattle.alpha_cmd.proofs.Told.{tail_same}
+use Rattle.alpha_cmd.proofs.SessionsTold.{tail_same}
 use Rattle.alpha_cmd.proofs.EndsWhere.{failed_ends}
 use Rattle.alpha_cmd.proofs.entry.alpha_main.Goals as goal
 
@@ -36,7 +37,10 @@ returns-in-Ok g c =
       part = subst (λ (words : List (List ℕ)). EndsCut words status did) is done.part;
       shelf = done.shelf;
       files = subst (λ (words : List (List ℕ)). SparesFiles words status did.shelf.old did.shelf.new) is done.files;
-      input = subst (λ (words : List (List ℕ)). (c.alpha_top.new.devices.input ≡ c.args.devices.now.input) ⊎ TakesInput words status) is done.input;
+      input =
+          subst (λ (words : List (List ℕ)). (c.alpha_top.new.devices.input ≡ c.args.devices.now.input)
+          ⊎ TakesInput words status)
+          is done.input;
       source = done.source;
       rest = done.rest;
       ended = subst (λ (words : List (List ℕ)). EndsAsked words status) is done.ended;
@@ -55,10 +59,13 @@ returns-in-Ok g c =
       unread = subst (λ (words : List (List ℕ)). Unread words status did) is done.unread;
       unread_alike = subst (λ (words : List (List ℕ)). UnreadAlike words status did) is done.unread_alike;
       fixed = subst (λ (words : List (List ℕ)). Fixes words status did.shelf.old did.shelf.new) is done.fixed;
-      modules = subst (λ (words : List (List ℕ)). KeepsModules words status did.shelf.old did.shelf.new) is done.modules;
+      modules =
+          subst (λ (words : List (List ℕ)). KeepsModules words status did.shelf.old did.shelf.new) is done.modules;
       links = subst (λ (words : List (List ℕ)). KeepsLinks words status did.shelf.old did.shelf.new) is done.links;
       replays = subst (λ (words : List (List ℕ)). ShowsRuns words status did.shelf.old) is done.replays;
-      recorded = subst (λ (words : List (List ℕ)). KeepsUnder (Asks words) status (told did) did.shelf.new) is done.recorded;
+      recorded =
+          subst (λ (words : List (List ℕ)). KeepsUnder (AsksFor words) status (told did) did.shelf.new) is
+          done.recorded;
     }
 
 -- memory ran out before the words were gathered
@@ -69,10 +76,10 @@ returns-in-Err g c =
     record {
       whole = inr (refl, refl, refl, refl, refl);
       part = λ e. absurd (let x : NoMemory ≡ SinkFault = e in cc);
-      shelf = record { takes = refl; later = omega arith; calm = λ stays. refl };
+      shelf = record { takes = refl; later = omega arith; faults_unchanged = λ stays. refl };
       files = inl (KeepsFiles-refl (g.H.Shelf.files c.args.devices.now.shelf));
       input = inl refl;
-      source = record { later = omega arith; calm = λ stays. refl };
+      source = record { later = omega arith; faults_unchanged = λ stays. refl };
       rest = λ bytes tells. ([], bytes, refl, tells);
       ended = λ is. absurd cc;
       found = λ options choices file lost asks e. cc;
@@ -83,7 +90,8 @@ returns-in-Err g c =
       };
       ran = λ file plain. (
         λ is. record { shows = λ ends. absurd (memory_unended ends); ends = λ image good has read. inr (inl refl) },
-        λ is. record { shows = λ ends. absurd (memory_unended ends); ends = λ image good accepted read. inr (inl refl) },
+        λ is.
+            record { shows = λ ends. absurd (memory_unended ends); ends = λ image good accepted read. inr (inl refl) },
       );
       given = λ quiet. inr refl;
       exact = λ a told quiet is. inr refl;
@@ -99,5 +107,6 @@ returns-in-Err g c =
       modules = λ file out asks e. absurd (undone e);
       links = λ entry out files asks e. absurd (undone e);
       replays = λ file journal asks e. absurd (undone e);
-      recorded = λ options choices force file out end lost n asks is. absurd (no_end end lost n NoMemory is (inr refl));
+      recorded = λ options choices force file out end lost n asks is.
+          absurd (journal_status-no_end end lost n NoMemory is (inr refl));
     }

@@ -18,9 +18,9 @@ returns-in-Ok-clause-begun c =
     let m = c.new-wild.ensures.machine in
     record {
       fresh = record {
-        calm = c.new-wild.ensures.pending;
+        nothing_pending = c.new-wild.ensures.pending;
         start = subst (λ (m : Machine). state_of m ≡ start (program_of m)) (sym m) c.in-Ok.ensures.start;
       };
-      how = ap (λ (m : Machine). m.how) m ∙ ap (λ (p : Program). p.how) c.in-Ok.ensures.program;
+      completion = ap (λ (m : Machine). m.completion) m ∙ ap (λ (p : Program). p.completion) c.in-Ok.ensures.program;
       none = c.new-chooser.ensures.drawn;
     }

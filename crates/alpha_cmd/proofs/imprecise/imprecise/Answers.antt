@@ -1,13 +1,13 @@
 use Rattle.std.proofs.Common.{Bool, false, refl, subst}
-use Rattle.alpha_io.specs.Sunk.{sunk}
+use Rattle.alpha_io.specs.SinkChange.{sink_change}
 use Rattle.alpha_shadow.specs.Broken.{IsAccepted}
 use Rattle.alpha_seq.specs.Devices.{drawn as drawn_in}
 use Rattle.alpha_request.specs.Options.{origin_of}
 use Rattle.alpha_cmd.specs.RunsAsked.{DecidesRun}
-use Rattle.alpha_cmd.specs.Commands.Imprecise.{Planned, RunsWild, kind, plan_in}
+use Rattle.alpha_cmd.specs.Commands.Imprecise.{Planned, RunsImprecise, kind, plan_in}
 use Rattle.alpha_cmd.specs.Form.{needs_files_and_input}
-use Rattle.alpha_cmd.specs.Outcome.{goes}
-use Rattle.alpha_cmd.proofs.After.{does_after, does_stop}
+use Rattle.alpha_cmd.specs.Outcome.{continues}
+use Rattle.alpha_cmd.proofs.AfterRead.{does_after, does_stop}
 use Rattle.alpha_cmd.proofs.Commands.Imprecise.{planned_good, planned_plain}
 use Rattle.alpha_cmd.proofs.RunsOnReplies.{plan_ran, stopped_unended}
 use Rattle.alpha_cmd.proofs.EndsWhere.{memory_fails}
@@ -19,15 +19,20 @@ returns-in-Ok-clause-does g c =
     let drawn = origin_of a.choices in
     let plan = plan_in c.in-Ok.begun in
     let is = c.in-Ok.ensures.stage in
-    does_after g.H.Shelf g.S.Source g.K.Sink g.N.Sink c.args.devices.now c.prepared.new.shelf c.run_begun.new.devices (Planned drawn a.force a.file.now)
-    (λ w. RunsWild a.options a.force w.input) needs_files_and_input (kind a.force) plan c.run_begun.result _ (λ e. cc) is.ok is.shelf
-    (c.run_begun.ensures.does a.force (planned_good a.force drawn a.file.now (g.H.Shelf.files c.args.devices.now.shelf) plan is.ok))
+    does_after g.H.Shelf g.S.Source g.K.Sink g.N.Sink c.args.devices.now c.prepare.new.shelf c.run_begun.new.devices
+    (Planned drawn a.force a.file.now)
+    (λ w. RunsImprecise a.options a.force w.input) needs_files_and_input (kind a.force) plan c.run_begun.result _
+    (λ e. cc) is.ok is.shelf
+    (c.run_begun.ensures.does a.force
+    (planned_good a.force drawn a.file.now (g.H.Shelf.files c.args.devices.now.shelf) plan is.ok))
 
 pub returns-in-Err-clause-does : goal.returns-in-Err-clause-does
 returns-in-Err-clause-does g c =
     let a = c.args.asked in
-    does_stop g.H.Shelf g.S.Source g.K.Sink g.N.Sink c.args.devices.now c.prepared.new.shelf (Planned (origin_of a.choices) a.force a.file.now)
-    (λ w. RunsWild a.options a.force w.input) needs_files_and_input (kind a.force) c.stopped.result c.in-Err.stop c.stopped.ensures c.in-Err.ensures.stage
+    does_stop g.H.Shelf g.S.Source g.K.Sink g.N.Sink c.args.devices.now c.prepare.new.shelf
+    (Planned (origin_of a.choices) a.force a.file.now)
+    (λ w. RunsImprecise a.options a.force w.input) needs_files_and_input
+    (kind a.force) c.stopped.result c.in-Err.stop c.stopped.ensures c.in-Err.ensures.stage
 
 pub returns-in-Ok-clause-ran : goal.returns-in-Ok-clause-ran
 returns-in-Ok-clause-ran g c = λ n seeds judges ends.
@@ -37,18 +42,23 @@ returns-in-Ok-clause-ran g c = λ n seeds judges ends.
     let plan = plan_in c.in-Ok.begun in
     let files = g.H.Shelf.files old.shelf in
     let may = planned_good false (origin_of a.choices) a.file.now files plan
-    (subst (λ (force : Bool). Planned (origin_of a.choices) force a.file.now files (goes plan)) judges c.in-Ok.ensures.stage.ok) in
-    plan_ran g.H.Shelf old.shelf c.prepared.new.shelf new.shelf a.file.now (origin_of a.choices) false plan c.run_begun.result
-    (λ image decision. DecidesRun a.options image decision (drawn_in g.S.Source old.input new.input) (sunk g.K.Sink old.out new.out) (sunk g.N.Sink old.notes new.notes))
+    (subst (λ (force : Bool). Planned (origin_of a.choices) force a.file.now files (continues plan)) judges
+    c.in-Ok.ensures.stage.ok) in
+    plan_ran g.H.Shelf old.shelf c.prepare.new.shelf new.shelf a.file.now
+    (origin_of a.choices) false plan c.run_begun.result
+    (λ image decision. DecidesRun a.options image decision (drawn_in g.S.Source old.input new.input)
+    (sink_change g.K.Sink old.out new.out) (sink_change g.N.Sink old.notes new.notes))
     (c.in-Ok.ensures.read n seeds)
-    (subst (λ (force : Bool). Planned (origin_of a.choices) force a.file.now files (goes plan)) judges c.in-Ok.ensures.stage.ok)
+    (subst (λ (force : Bool). Planned (origin_of a.choices) force a.file.now files (continues plan)) judges
+    c.in-Ok.ensures.stage.ok)
     c.run_begun.ensures.shelf (may.1 refl) (c.run_begun.ensures.ran may ends)
 
 pub returns-in-Err-clause-ran : goal.returns-in-Err-clause-ran
 returns-in-Err-clause-ran g c = λ n seeds judges ends.
     let a = c.args.asked in
     let files = g.H.Shelf.files c.args.devices.now.shelf in
-    absurd (stopped_unended (Planned (origin_of a.choices) a.force a.file.now files) _ (planned_plain (origin_of a.choices) a.force a.file.now files) c.in-Err.stop c.stopped.result
+    absurd (stopped_unended (Planned (origin_of a.choices) a.force a.file.now files) _
+    (planned_plain (origin_of a.choices) a.force a.file.now files) c.in-Err.stop c.stopped.result
     c.stopped.ensures c.in-Err.ensures.stage.refused ends)
 
 pub returns-in-Ok-clause-ends : goal.returns-in-Ok-clause-ends
@@ -57,8 +67,10 @@ returns-in-Ok-clause-ends g c = λ n seeds judges image good accepted read.
     let files = g.H.Shelf.files c.args.devices.now.shelf in
     let plan = plan_in c.in-Ok.begun in
     c.run_begun.ensures.ends (planned_good false (origin_of a.choices) a.file.now files plan
-    (subst (λ (force : Bool). Planned (origin_of a.choices) force a.file.now files (goes plan)) judges c.in-Ok.ensures.stage.ok))
+    (subst (λ (force : Bool). Planned (origin_of a.choices) force a.file.now files (continues plan)) judges
+    c.in-Ok.ensures.stage.ok))
 
 pub returns-in-Err-clause-ends : goal.returns-in-Err-clause-ends
 returns-in-Err-clause-ends g c = λ n seeds judges image good accepted read.
-    memory_fails c.in-Err.stop c.stopped.result c.stopped.ensures (c.in-Err.ensures.whole n image seeds good accepted read)
+    memory_fails c.in-Err.stop c.stopped.result c.stopped.ensures
+    (c.in-Err.ensures.whole n image seeds good accepted read)

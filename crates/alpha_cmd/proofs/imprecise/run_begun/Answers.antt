@@ -1,16 +1,17 @@
 use Rattle.std.proofs.Common.{ℕ, Some, false, refl, sym, ap, inl}
-use Rattle.alpha_io.specs.Sunk.{sunk}
+use Rattle.alpha_io.specs.SinkChange.{sink_change}
 use Rattle.alpha_seq.specs.Devices.{drawn}
 use Rattle.alpha_imprecise.specs.Run.{seen}
-use Rattle.alpha_run.proofs.Turning.{end_of_fed, end_of_cut}
-use Rattle.alpha_run.proofs.WildShown.{whole}
+use Rattle.alpha_run.proofs.ObservedSteps.{end_of_fed, end_of_cut}
+use Rattle.alpha_run.proofs.ImpreciseShown.{whole_run-ImpreciseRanAs}
 use Rattle.alpha_cmd.specs.AnswerBy.{world}
 use Rattle.alpha_cmd.specs.Chooser.{ahead_in}
 use Rattle.alpha_cmd.specs.Commands.Imprecise.{on, plan_in}
 use Rattle.alpha_cmd.specs.Ran.{end_on}
-use Rattle.alpha_cmd.proofs.Streaming.{does_cut}
+use Rattle.alpha_cmd.proofs.StreamedWrites.{does_cut}
 use Rattle.alpha_cmd.proofs.RunsOnReplies.{cut_unended}
-use Rattle.alpha_cmd.proofs.WildRan.{may_alone, ran_shows, ran_whole, wild_decides, cut_begins, cut_fronts}
+use Rattle.alpha_cmd.proofs.ImpreciseRan.{may_alone, ran_shows, ran_whole, imprecise-DecidesAsked, cut_begins}
+use Rattle.alpha_cmd.proofs.ImpreciseRan.{cut_fronts}
 use Rattle.alpha_cmd.proofs.EndsWhere.{cut_fails}
 use Rattle.alpha_cmd.proofs.imprecise.run_begun.Goals as goal
 
@@ -20,13 +21,16 @@ returns-in-Ok-clause-does g c = λ force may.
     let new = c.run_imprecise.new in
     let begun = c.args.begun.now in
     let ahead = ahead_in begun.chooser.chooser in
-    let w = whole _ _ _ _ _ _ _ _ _ _ _ c.in-Ok.ensures.made in
+    let w = whole_run-ImpreciseRanAs _ _ _ _ _ _ _ _ _ _ _ c.in-Ok.ensures.made in
     let input = drawn g.S.Source old.input new.input in
-    ran_whole c.args.options begun.wild ahead c.requires.how c.requires.fresh g.H.Shelf g.S.Source g.K.Sink g.N.Sink old new.input new.out new.notes force c.in-Ok.last c.drawn.result c.behind.result
-    c.behind.ensures
-    (ran_shows c.args.options begun.wild ahead c.requires.how c.requires.fresh c.in-Ok.last new.left new.wild _ _ input (sunk g.K.Sink old.out new.out)
-    (sunk g.N.Sink old.notes new.notes) w refl force c.drawn.result
-    (ap (λ (n : ℕ). Some n) c.requires.none) (ap (λ (n : ℕ). Some n) (sym c.drawn.ensures)) c.drawn.type_inv (may_alone force (plan_in begun) may))
+    ran_whole c.args.options begun.wild ahead c.requires.completion c.requires.fresh g.H.Shelf g.S.Source g.K.Sink
+    g.N.Sink old new.input new.out new.notes force c.in-Ok.last c.drawn.result c.after_run.result
+    c.after_run.ensures
+    (ran_shows c.args.options begun.wild ahead c.requires.completion c.requires.fresh c.in-Ok.last new.left new.wild _ _
+    input (sink_change g.K.Sink old.out new.out)
+    (sink_change g.N.Sink old.notes new.notes) w refl force c.drawn.result
+    (ap (λ (n : ℕ). Some n) c.requires.none) (ap (λ (n : ℕ). Some n) (sym c.drawn.ensures)) c.drawn.type_inv
+    (may_alone force (plan_in begun) may))
     w.ran.same (end_of_fed input (seen w.ran.steps) w.ran.fed)
 
 pub returns-in-Err-clause-does : goal.returns-in-Err-clause-does
@@ -36,12 +40,15 @@ returns-in-Err-clause-does g c = λ force may.
     let begun = c.args.begun.now in
     let ahead = ahead_in begun.chooser.chooser in
     let input = drawn g.S.Source old.input new.input in
-    let out = sunk g.K.Sink old.out new.out in
-    let notes = sunk g.N.Sink old.notes new.notes in
+    let out = sink_change g.K.Sink old.out new.out in
+    let notes = sink_change g.N.Sink old.notes new.notes in
     let cut = c.in-Err.ensures.broken in
-    does_cut g.H.Shelf g.S.Source g.K.Sink g.N.Sink old new.input new.out new.notes (on c.args.options force (plan_in begun)) c.in-Err.fault c.cut_short.result refl
-    (cut_fronts c.args.options begun.wild ahead c.requires.how c.requires.fresh force (world g.H.Shelf g.S.Source old.shelf old.input) out notes
-    (cut_begins c.args.options begun.wild ahead c.requires.how c.requires.fresh force c.in-Err.fault _ _ input out notes cut refl (may_alone force (plan_in begun) may) input.old.left refl))
+    does_cut g.H.Shelf g.S.Source g.K.Sink g.N.Sink old new.input new.out new.notes
+    (on c.args.options force (plan_in begun)) c.in-Err.fault c.cut_short.result refl
+    (cut_fronts c.args.options begun.wild ahead c.requires.completion c.requires.fresh force
+    (world g.H.Shelf g.S.Source old.shelf old.input) out notes
+    (cut_begins c.args.options begun.wild ahead c.requires.completion c.requires.fresh force c.in-Err.fault _ _ input
+    out notes cut refl (may_alone force (plan_in begun) may) input.old.left refl))
     c.cut_short.ensures cut.cause (end_of_cut input cut.left (seen cut.steps) cut.fed cut.leaves_end)
 
 pub returns-in-Ok-clause-ran : goal.returns-in-Ok-clause-ran
@@ -49,22 +56,29 @@ returns-in-Ok-clause-ran g c = λ may ends.
     let old = c.args.devices.now in
     let new = c.run_imprecise.new in
     let begun = c.args.begun.now in
-    let w = whole _ _ _ _ _ _ _ _ _ _ _ c.in-Ok.ensures.made in
-    wild_decides c.args.options begun.wild (ahead_in begun.chooser.chooser) c.requires.how c.requires.fresh c.in-Ok.last new.left new.wild _ _ (drawn g.S.Source old.input new.input)
-    (sunk g.K.Sink old.out new.out) (sunk g.N.Sink old.notes new.notes) w refl c.drawn.result (may_alone false (plan_in begun) may refl) c.behind.result c.behind.ensures
+    let w = whole_run-ImpreciseRanAs _ _ _ _ _ _ _ _ _ _ _ c.in-Ok.ensures.made in
+    imprecise-DecidesAsked c.args.options begun.wild
+    (ahead_in begun.chooser.chooser) c.requires.completion c.requires.fresh
+    c.in-Ok.last new.left new.wild _ _ (drawn g.S.Source old.input new.input)
+    (sink_change g.K.Sink old.out new.out) (sink_change g.N.Sink old.notes new.notes) w refl c.drawn.result
+    (may_alone false (plan_in begun) may refl) c.after_run.result c.after_run.ensures
 
 pub returns-in-Err-clause-ran : goal.returns-in-Err-clause-ran
-returns-in-Err-clause-ran g c = λ may ends. absurd (cut_unended c.in-Err.fault c.cut_short.result c.cut_short.ensures ends)
+returns-in-Err-clause-ran g c =
+    λ may ends. absurd (cut_unended c.in-Err.fault c.cut_short.result c.cut_short.ensures ends)
 
 pub returns-in-Ok-clause-ends : goal.returns-in-Ok-clause-ends
 returns-in-Ok-clause-ends g c = λ may.
     let old = c.args.devices.now in
     let new = c.run_imprecise.new in
     let begun = c.args.begun.now in
-    let w = whole _ _ _ _ _ _ _ _ _ _ _ c.in-Ok.ensures.made in
+    let w = whole_run-ImpreciseRanAs _ _ _ _ _ _ _ _ _ _ _ c.in-Ok.ensures.made in
     let decided =
-    wild_decides c.args.options begun.wild (ahead_in begun.chooser.chooser) c.requires.how c.requires.fresh c.in-Ok.last new.left new.wild _ _ (drawn g.S.Source old.input new.input)
-    (sunk g.K.Sink old.out new.out) (sunk g.N.Sink old.notes new.notes) w refl c.drawn.result (may_alone false (plan_in begun) may refl) c.behind.result c.behind.ensures in
+    imprecise-DecidesAsked c.args.options begun.wild
+    (ahead_in begun.chooser.chooser) c.requires.completion c.requires.fresh
+    c.in-Ok.last new.left new.wild _ _ (drawn g.S.Source old.input new.input)
+    (sink_change g.K.Sink old.out new.out) (sink_change g.N.Sink old.notes new.notes) w refl c.drawn.result
+    (may_alone false (plan_in begun) may refl) c.after_run.result c.after_run.ensures in
     inl (end_on decided.ran, decided.status_is)
 
 pub returns-in-Err-clause-ends : goal.returns-in-Err-clause-ends

@@ -1,14 +1,15 @@
 use Rattle.alpha_request.specs.Origin.{seed}
-use Rattle.alpha_cmd.proofs.Accepted.{spelled, checked, seeds, listed}
-use Rattle.alpha_cmd.proofs.Alike.{alike}
+use Rattle.alpha_cmd.proofs.AcceptedFiles.{spelling-ImageOf, accepted-IsChecked, seed-HasWords, listed-HasWords}
+use Rattle.alpha_cmd.proofs.Alike.{answers-equal}
 use Rattle.alpha_cmd.proofs.laws.laws_of_accepted_files.Goals as goal
 
 pub returns : goal.returns
 returns c = record {
-  spelled = spelled;
-  checked = checked;
-  seeds = seeds;
-  listed = listed;
+  spelled = spelling-ImageOf;
+  checked = accepted-IsChecked;
+  seeds = seed-HasWords;
+  listed = listed-HasWords;
   alike = λ image options n force file w a b good safe files input there one other.
-      alike options (seed n) force file w a b files input (seeds w.files n) (checked image w file good safe there) one other;
+      answers-equal options (seed n) force file w a b files input (seed-HasWords w.files n)
+      (accepted-IsChecked image w file good safe there) one other;
 }

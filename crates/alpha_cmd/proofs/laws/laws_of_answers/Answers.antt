@@ -1,4 +1,4 @@
-use Rattle.alpha_cmd.proofs.Tried.{IsAnswer-single, IsAnswer-some}
+use Rattle.alpha_cmd.proofs.AttemptedBy.{IsAnswer-single, IsAnswer-some}
 use Rattle.alpha_cmd.proofs.laws.laws_of_answers.Goals as goal
 
 pub returns : goal.returns

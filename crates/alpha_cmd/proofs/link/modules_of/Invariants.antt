@@ -7,7 +7,8 @@ use Rattle.alpha_cmd.proofs.link.modules_of.Given as goal
 abbrev pub invariant-loop-number : goal.invariant-loop-number
 invariant-loop-number l = record {
   rest : (o : Outcome (List ModuleParts))
-      → Each (λ before bytes. ModuleOf (length before) bytes) l.all.items (map (λ file. file.items) (drop l.number l.files)) o
+      → Each (λ before bytes. ModuleOf (length before) bytes) l.all.items
+      (map (λ file. file.items) (drop l.number l.files)) o
       → ModulesOf (map (λ file. file.items) l.files) o;
   count : length l.all.items ≡ l.number;
 }

@@ -1,7 +1,7 @@
 use Rattle.std.proofs.Common.{◌∙◌, arith}
 use Rattle.std.proofs.Math.Seq.{drop-cons}
-use Rattle.alpha_io.proofs.Shelved.{KeepsFiles-trans}
-use Rattle.alpha_cmd.proofs.Commands.Link.{files_next, reads_next, reads_all}
+use Rattle.alpha_io.proofs.ShelfLaws.{KeepsFiles-trans}
+use Rattle.alpha_cmd.proofs.Commands.Link.{files_next, reads_next, ReadsLeft-IsReadEach}
 use Rattle.alpha_cmd.proofs.link.read_files.Goals as goal
 
 pub loop-name-preserved : goal.loop-name-preserved
@@ -11,19 +11,26 @@ loop-name-preserved g c =
     let so_far = c.loop-name.invariant in
     let now = c.in_ok-bytes.ensures.stage in
     record {
-      rest = files_next old middle c.args.names.now c.loop-name.all.items c.push.new.self.items c.loop-name.name-index _ c.in_ok-bytes.bytes
-          (drop-cons c.args.names.now c.loop-name.name-index _ (omega arith)) so_far.shelf.files now.ok c.in-Ok.ensures.items so_far.rest;
-      read = reads_next _ _ _ c.args.names.now c.loop-name.all.items c.push.new.self.items c.loop-name.name-index _ c.in_ok-bytes.bytes
-          (drop-cons c.args.names.now c.loop-name.name-index _ (omega arith)) c.in_ok-bytes.ensures.read c.in-Ok.ensures.items so_far.read;
+      rest =
+          files_next old middle c.args.names.now c.loop-name.all.items c.push.new.self.items c.loop-name.name-index _
+          c.in_ok-bytes.bytes
+          (drop-cons c.args.names.now c.loop-name.name-index _ (omega arith)) so_far.shelf.files now.ok
+          c.in-Ok.ensures.items so_far.rest;
+      read =
+          reads_next _ _ _ c.args.names.now c.loop-name.all.items c.push.new.self.items c.loop-name.name-index _
+          c.in_ok-bytes.bytes
+          (drop-cons c.args.names.now c.loop-name.name-index _ (omega arith)) c.in_ok-bytes.ensures.read
+          c.in-Ok.ensures.items so_far.read;
       count = omega (arith, so_far.count, c.in-Ok.ensures.len);
       shelf = record {
         files = KeepsFiles-trans old middle (g.H.Shelf.files c.read_file.new.shelf) so_far.shelf.files now.shelf.files;
         takes = now.shelf.takes ∙ so_far.shelf.takes;
         later = omega (arith, so_far.shelf.later, now.shelf.later);
-        calm = λ always. now.shelf.calm (λ e. cc) ∙ so_far.shelf.calm tt;
+        faults_unchanged = λ always. now.shelf.faults_unchanged (λ e. cc) ∙ so_far.shelf.faults_unchanged tt;
       };
     }
 
 pub returns-clause-read : goal.returns-clause-read
 returns-clause-read g c =
-    reads_all _ _ c.args.names.now c.loop-name.all.items c.loop-name.name-index (omega arith) c.loop-name.invariant.read
+    ReadsLeft-IsReadEach _ _ c.args.names.now c.loop-name.all.items c.loop-name.name-index
+    (omega arith) c.loop-name.invariant.read

@@ -3,24 +3,29 @@ use Rattle.alpha_io.specs.Files.{HasFile}
 use Rattle.alpha_cmd.specs.Image.{ImageOf}
 use Rattle.alpha_cmd.specs.Form.{needs_by}
 use Rattle.alpha_cmd.specs.OfImage.{Answers, kind}
-use Rattle.alpha_cmd.proofs.After.{does_after, does_stop}
+use Rattle.alpha_cmd.proofs.AfterRead.{does_after, does_stop}
 use Rattle.alpha_cmd.proofs.Stages.{stopped_undone, image_plain}
-use Rattle.alpha_cmd.proofs.Told.{tail_same}
+use Rattle.alpha_cmd.proofs.SessionsTold.{tail_same}
 use Rattle.alpha_cmd.proofs.of_image.of_image.Goals as goal
 
 pub returns-in-Ok-clause-does : goal.returns-in-Ok-clause-does
 returns-in-Ok-clause-does g c =
-    does_after g.H.Shelf g.S.Source g.K.Sink g.N.Sink c.args.devices.now c.load.new.shelf c.on_image.new.devices (λ files. ImageOf files c.args.file.now)
-    (λ w. Answers c.args.what w.input) (needs_by (kind c.args.what)) (kind c.args.what) c.in-Ok.image c.on_image.result _ (λ e. cc) c.in-Ok.ensures.stage.ok c.in-Ok.ensures.stage.shelf
+    does_after g.H.Shelf g.S.Source g.K.Sink g.N.Sink c.args.devices.now c.load.new.shelf c.on_image.new.devices
+    (λ files. ImageOf files c.args.file.now)
+    (λ w. Answers c.args.command w.input) (needs_by (kind c.args.command)) (kind c.args.command) c.in-Ok.image
+    c.on_image.result _ (λ e. cc) c.in-Ok.ensures.stage.ok c.in-Ok.ensures.stage.shelf
     c.on_image.ensures.does
 
 pub returns-in-Err-clause-does : goal.returns-in-Err-clause-does
 returns-in-Err-clause-does g c =
-    does_stop g.H.Shelf g.S.Source g.K.Sink g.N.Sink c.args.devices.now c.load.new.shelf (λ files. ImageOf files c.args.file.now) (λ w. Answers c.args.what w.input)
-    (needs_by (kind c.args.what)) (kind c.args.what) c.stopped.result c.in-Err.stop c.stopped.ensures c.in-Err.ensures.stage
+    does_stop g.H.Shelf g.S.Source g.K.Sink g.N.Sink c.args.devices.now c.load.new.shelf
+    (λ files. ImageOf files c.args.file.now) (λ w. Answers c.args.command w.input)
+    (needs_by (kind c.args.command)) (kind c.args.command) c.stopped.result c.in-Err.stop c.stopped.ensures
+    c.in-Err.ensures.stage
 
 pub returns-in-Err-clause-script : goal.returns-in-Err-clause-script
-returns-in-Err-clause-script g c = λ is. tail_same (g.S.Source.left c.args.devices.now.input) (g.S.Source.left c.args.devices.now.input) refl
+returns-in-Err-clause-script g c =
+    λ is. tail_same (g.S.Source.left c.args.devices.now.input) (g.S.Source.left c.args.devices.now.input) refl
 
 pub returns-in-Ok-clause-checked : goal.returns-in-Ok-clause-checked
 returns-in-Ok-clause-checked g c = λ is done.
@@ -36,5 +41,6 @@ returns-in-Ok-clause-checked g c = λ is done.
 pub returns-in-Err-clause-checked : goal.returns-in-Err-clause-checked
 returns-in-Err-clause-checked g c = λ is done.
     let files = g.H.Shelf.files c.args.devices.now.shelf in
-    absurd (stopped_undone (ImageOf files c.args.file.now) _ (image_plain files c.args.file.now) c.in-Err.stop c.stopped.result c.stopped.ensures
+    absurd (stopped_undone (ImageOf files c.args.file.now) _
+    (image_plain files c.args.file.now) c.in-Err.stop c.stopped.result c.stopped.ensures
     c.in-Err.ensures.stage.refused done)

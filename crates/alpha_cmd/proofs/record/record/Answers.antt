@@ -1,13 +1,13 @@
 use Rattle.std.proofs.Common.{◌∙◌, None, sym, ap}
-use Rattle.alpha_io.specs.Faults.{Rose}
+use Rattle.alpha_io.specs.Faults.{Faulted}
 use Rattle.alpha_request.specs.Options.{origin_of}
 use Rattle.alpha_cmd.specs.Answer.{Answer}
 use Rattle.alpha_cmd.specs.AnswerBy.{told}
 use Rattle.alpha_cmd.specs.Commands.Imprecise.{Planned, plan_in}
 use Rattle.alpha_cmd.specs.Commands.Record.{Records, kind}
 use Rattle.alpha_cmd.specs.Form.{needs_files_and_input}
-use Rattle.alpha_cmd.proofs.After.{does_after, does_stop}
-use Rattle.alpha_cmd.proofs.Doing.{shelf_call}
+use Rattle.alpha_cmd.proofs.AfterRead.{does_after, does_stop}
+use Rattle.alpha_cmd.proofs.StageEffects.{shelf_call}
 use Rattle.alpha_cmd.proofs.JournalStatus.{stopped_no_end}
 use Rattle.alpha_cmd.proofs.Commands.Imprecise.{planned_good}
 use Rattle.alpha_cmd.proofs.record.record.Goals as goal
@@ -17,11 +17,14 @@ returns-in-Ok g c =
     let a = c.args.asked in
     let plan = plan_in c.in-Ok.begun in
     let is = c.in-Ok.ensures.stage in
-    let may = planned_good a.force (origin_of a.choices) a.file.now (g.H.Shelf.files c.args.devices.now.shelf) plan is.ok in
+    let may =
+    planned_good a.force (origin_of a.choices) a.file.now (g.H.Shelf.files c.args.devices.now.shelf) plan is.ok in
     record {
       does =
-          does_after g.H.Shelf g.S.Source g.K.Sink g.N.Sink c.args.devices.now c.prepared.new.shelf c.record_begun.new.devices (Planned (origin_of a.choices) a.force a.file.now)
-          (Records a.options a.force c.args.name.now) needs_files_and_input (kind a.force c.args.name.now) plan c.record_begun.result _ (λ e. cc) is.ok is.shelf
+          does_after g.H.Shelf g.S.Source g.K.Sink g.N.Sink c.args.devices.now c.prepare.new.shelf
+          c.record_begun.new.devices (Planned (origin_of a.choices) a.force a.file.now)
+          (Records a.options a.force c.args.name.now) needs_files_and_input
+          (kind a.force c.args.name.now) plan c.record_begun.result _ (λ e. cc) is.ok is.shelf
           (c.record_begun.ensures.does a.force may);
       keeps = λ end lost n is_end. (plan, is.ok, c.record_begun.ensures.keeps a.force may end lost n is_end);
     }
@@ -31,12 +34,15 @@ returns-in-Err g c =
     let a = c.args.asked in
     let drawn = origin_of a.choices in
     let name = c.args.name.now in
-    let did = shelf_call g.H.Shelf g.S.Source g.K.Sink g.N.Sink c.args.devices.now c.prepared.new.shelf in
+    let did = shelf_call g.H.Shelf g.S.Source g.K.Sink g.N.Sink c.args.devices.now c.prepare.new.shelf in
     record {
       does =
-          does_stop g.H.Shelf g.S.Source g.K.Sink g.N.Sink c.args.devices.now c.prepared.new.shelf (Planned drawn a.force a.file.now) (Records a.options a.force name)
-          needs_files_and_input (kind a.force name) c.stopped.result c.in-Err.stop c.stopped.ensures c.in-Err.ensures.stage;
+          does_stop g.H.Shelf g.S.Source g.K.Sink g.N.Sink c.args.devices.now c.prepare.new.shelf
+          (Planned drawn a.force a.file.now) (Records a.options a.force name)
+          needs_files_and_input (kind a.force name) c.stopped.result c.in-Err.stop c.stopped.ensures
+          c.in-Err.ensures.stage;
       keeps = λ end lost n is.
-          absurd (stopped_no_end a.options drawn a.force a.file.now name (told did) (Rose did.shelf.before did.shelf.now) end lost n c.in-Err.stop
+          absurd (stopped_no_end a.options drawn a.force a.file.now name (told did)
+          (Faulted did.shelf.before did.shelf.now) end lost n c.in-Err.stop
           (sym (ap (λ (x : Answer). x.status) (c.stopped.ensures None)) ∙ is) c.in-Err.ensures.stage.refused);
     }

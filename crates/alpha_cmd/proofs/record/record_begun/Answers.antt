@@ -1,8 +1,8 @@
 use Rattle.std.proofs.Common.{length}
-use Rattle.alpha_io.specs.Faults.{Rose}
+use Rattle.alpha_io.specs.Faults.{Faulted}
 use Rattle.alpha_io.specs.Files.{Refuses}
-use Rattle.alpha_io.specs.Shelved.{shelved}
-use Rattle.alpha_io.specs.Sunk.{sunk}
+use Rattle.alpha_io.specs.ShelfChange.{shelf_change}
+use Rattle.alpha_io.specs.SinkChange.{sink_change}
 use Rattle.alpha_replay.specs.Journal.{spelling}
 use Rattle.alpha_cmd.specs.Commands.Imprecise.{plan_in}
 use Rattle.alpha_cmd.specs.Ends.{status_in}
@@ -13,8 +13,10 @@ use Rattle.alpha_cmd.proofs.record.record_begun.Goals as goal
 
 pub returns-in-Made-clause-does : goal.returns-in-Made-clause-does
 returns-in-Made-clause-does g c = λ force may.
-    kept_does g.H.Shelf g.S.Source g.K.Sink g.N.Sink c.args.devices.now c.run_begun.new.devices c.keep_journal.new.shelf c.args.options force c.args.name.now
-    (plan_in c.args.begun.now) c.in-Made.journal c.in-Made.decision c.keep_journal.result c.run_begun.ensures.shelf c.in-Made.ensures.calm c.in-Made.ensures.rest
+    kept_does g.H.Shelf g.S.Source g.K.Sink g.N.Sink c.args.devices.now c.run_begun.new.devices c.keep_journal.new.shelf
+    c.args.options force c.args.name.now
+    (plan_in c.args.begun.now) c.in-Made.journal c.in-Made.decision c.keep_journal.result c.run_begun.ensures.shelf
+    c.in-Made.ensures.faults_unchanged c.in-Made.ensures.rest
     (c.in-Made.ensures.made force may) (c.keep_journal.ensures.kept, c.keep_journal.ensures.shelf)
 
 pub returns-in-Made-clause-keeps : goal.returns-in-Made-clause-keeps
@@ -26,18 +28,21 @@ returns-in-Made-clause-keeps g c = λ force may end lost n is.
     let p = c.in-Made.journal in
     let input = g.S.Source.left old.input in
     let run = c.in-Made.ensures.made force may in
-    let out = sunk g.K.Sink old.out middle.out in
-    let notes = sunk g.N.Sink old.notes middle.notes in (
+    let out = sink_change g.K.Sink old.out middle.out in
+    let notes = sink_change g.N.Sink old.notes middle.notes in (
       p,
       c.keep_journal.ensures.good,
       has_of c.args.options input plan run.shown p run.has,
-      kept_keeps c.args.options force name input plan p c.in-Made.decision c.keep_journal.result (g.S.Source.left middle.input) out notes run
-          (Refuses (g.H.Shelf.files middle.shelf) (g.H.Shelf.takes middle.shelf name (length (spelling p)))) (Rose (g.H.Shelf.faults middle.shelf) (g.H.Shelf.faults c.keep_journal.new.shelf))
-          (shelved g.H.Shelf middle.shelf c.keep_journal.new.shelf) end lost n is c.keep_journal.ensures.kept,
+      kept_keeps c.args.options force name input plan p c.in-Made.decision c.keep_journal.result
+          (g.S.Source.left middle.input) out notes run
+          (Refuses (g.H.Shelf.files middle.shelf) (g.H.Shelf.takes middle.shelf name (length (spelling p))))
+          (Faulted (g.H.Shelf.faults middle.shelf) (g.H.Shelf.faults c.keep_journal.new.shelf))
+          (shelf_change g.H.Shelf middle.shelf c.keep_journal.new.shelf) end lost n is c.keep_journal.ensures.kept,
     )
 
 pub returns-in-Over-clause-does : goal.returns-in-Over-clause-does
 returns-in-Over-clause-does g c = λ force may. c.in-Over.ensures.over force c.args.name.now may
 
 pub returns-in-Over-clause-keeps : goal.returns-in-Over-clause-keeps
-returns-in-Over-clause-keeps g c = λ force may end lost n is. absurd (over_no_end end lost n (status_in c.in-Over.result) is c.in-Over.ensures.status)
+returns-in-Over-clause-keeps g c =
+    λ force may end lost n is. absurd (over_no_end end lost n (status_in c.in-Over.result) is c.in-Over.ensures.status)

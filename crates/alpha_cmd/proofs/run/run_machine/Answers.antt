@@ -1,12 +1,12 @@
 use Rattle.std.proofs.Common.{refl, inl}
-use Rattle.alpha_io.specs.Sunk.{sunk}
+use Rattle.alpha_io.specs.SinkChange.{sink_change}
 use Rattle.alpha_seq.specs.Devices.{drawn}
-use Rattle.alpha_run.proofs.Turning.{end_of_fed, end_of_cut}
+use Rattle.alpha_run.proofs.ObservedSteps.{end_of_fed, end_of_cut}
 use Rattle.alpha_cmd.specs.Commands.Run.{on}
 use Rattle.alpha_cmd.specs.Ran.{end_on}
 use Rattle.alpha_cmd.proofs.Ran.{ran_shows, ran_whole, cut_fronts}
 use Rattle.alpha_cmd.proofs.RunsOnReplies.{ran_decides, cut_unended}
-use Rattle.alpha_cmd.proofs.Streaming.{does_cut}
+use Rattle.alpha_cmd.proofs.StreamedWrites.{does_cut}
 use Rattle.alpha_cmd.proofs.EndsWhere.{cut_fails}
 use Rattle.alpha_cmd.proofs.run.run_machine.Goals as goal
 
@@ -15,10 +15,13 @@ returns-in-Ok-clause-does g c =
     let old = c.args.devices.now in
     let new = c.run_sequential.new in
     let ran = c.in-Ok.ensures.made in
-    ran_whole g.H.Shelf g.S.Source g.K.Sink g.N.Sink old new.input new.out new.notes c.args.options c.args.machine.now c.in-Ok.last c.behind.result
-    c.behind.ensures
-    (ran_shows c.args.options c.in-Ok.last new.left c.args.machine.now new.machine (drawn g.S.Source old.input new.input) (sunk g.K.Sink old.out new.out)
-    (sunk g.N.Sink old.notes new.notes) (record { how = c.requires.how; state = c.requires.start }) ran)
+    ran_whole g.H.Shelf g.S.Source g.K.Sink g.N.Sink old new.input new.out new.notes c.args.options c.args.machine.now
+    c.in-Ok.last c.after_run.result
+    c.after_run.ensures
+    (ran_shows c.args.options c.in-Ok.last new.left c.args.machine.now new.machine
+    (drawn g.S.Source old.input new.input) (sink_change g.K.Sink old.out new.out)
+    (sink_change g.N.Sink old.notes new.notes) (record { completion = c.requires.completion; state = c.requires.start })
+    ran)
     ran.same (end_of_fed (drawn g.S.Source old.input new.input) ran.events ran.fed)
 
 pub returns-in-Err-clause-does : goal.returns-in-Err-clause-does
@@ -26,17 +29,22 @@ returns-in-Err-clause-does g c =
     let old = c.args.devices.now in
     let new = c.run_sequential.new in
     let cut = c.in-Err.ensures.broken in
-    does_cut g.H.Shelf g.S.Source g.K.Sink g.N.Sink old new.input new.out new.notes (on c.args.options c.args.machine.now.image) c.in-Err.fault c.cut_short.result refl
-    (cut_fronts c.args.options c.args.machine.now _ c.in-Err.fault (drawn g.S.Source old.input new.input) (sunk g.K.Sink old.out new.out) (sunk g.N.Sink old.notes new.notes)
-    (record { how = c.requires.how; state = c.requires.start }) cut refl)
-    c.cut_short.ensures cut.cause (end_of_cut (drawn g.S.Source old.input new.input) cut.left cut.events cut.fed cut.leaves_end)
+    does_cut g.H.Shelf g.S.Source g.K.Sink g.N.Sink old new.input new.out new.notes
+    (on c.args.options c.args.machine.now.image) c.in-Err.fault c.cut_short.result refl
+    (cut_fronts c.args.options c.args.machine.now _ c.in-Err.fault (drawn g.S.Source old.input new.input)
+    (sink_change g.K.Sink old.out new.out) (sink_change g.N.Sink old.notes new.notes)
+    (record { completion = c.requires.completion; state = c.requires.start }) cut refl)
+    c.cut_short.ensures cut.cause
+    (end_of_cut (drawn g.S.Source old.input new.input) cut.left cut.events cut.fed cut.leaves_end)
 
 pub returns-in-Ok-clause-ran : goal.returns-in-Ok-clause-ran
 returns-in-Ok-clause-ran g c = λ ends.
     let old = c.args.devices.now in
     let new = c.run_sequential.new in
-    ran_decides c.args.options c.args.machine.now c.in-Ok.last new.left new.machine (drawn g.S.Source old.input new.input) (sunk g.K.Sink old.out new.out)
-    (sunk g.N.Sink old.notes new.notes) (record { how = c.requires.how; state = c.requires.start }) c.in-Ok.ensures.made c.behind.result c.behind.ensures
+    ran_decides c.args.options c.args.machine.now c.in-Ok.last new.left new.machine
+    (drawn g.S.Source old.input new.input) (sink_change g.K.Sink old.out new.out)
+    (sink_change g.N.Sink old.notes new.notes) (record { completion = c.requires.completion; state = c.requires.start })
+    c.in-Ok.ensures.made c.after_run.result c.after_run.ensures
 
 pub returns-in-Err-clause-ran : goal.returns-in-Err-clause-ran
 returns-in-Err-clause-ran g c = λ ends. absurd (cut_unended c.in-Err.fault c.cut_short.result c.cut_short.ensures ends)
@@ -46,8 +54,10 @@ returns-in-Ok-clause-ends g c =
     let old = c.args.devices.now in
     let new = c.run_sequential.new in
     let decided =
-    ran_decides c.args.options c.args.machine.now c.in-Ok.last new.left new.machine (drawn g.S.Source old.input new.input) (sunk g.K.Sink old.out new.out)
-    (sunk g.N.Sink old.notes new.notes) (record { how = c.requires.how; state = c.requires.start }) c.in-Ok.ensures.made c.behind.result c.behind.ensures in
+    ran_decides c.args.options c.args.machine.now c.in-Ok.last new.left new.machine
+    (drawn g.S.Source old.input new.input) (sink_change g.K.Sink old.out new.out)
+    (sink_change g.N.Sink old.notes new.notes) (record { completion = c.requires.completion; state = c.requires.start })
+    c.in-Ok.ensures.made c.after_run.result c.after_run.ensures in
     inl (end_on decided.ran, decided.status_is)
 
 pub returns-in-Err-clause-ends : goal.returns-in-Err-clause-ends

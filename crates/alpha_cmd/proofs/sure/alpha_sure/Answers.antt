@@ -1,11 +1,12 @@
 use Rattle.std.proofs.Common.{◌≢◌, ◌∙◌, sym, ⊎_elim}
 use Rattle.alpha_cmd.specs.declared.status.Status.TheVariants.{SinkFault}
-use Rattle.alpha_cmd.proofs.Tried.{told_sure, tried_not_input, tried_there, Rose-none, Calm-none}
+use Rattle.alpha_cmd.proofs.AttemptedBy.{told_sure, tried_not_input, tried_there, Faulted-none, NoFault-none}
 use Rattle.alpha_cmd.proofs.sure.alpha_sure.Goals as goal
 
 pub returns-clause-answer : goal.returns-clause-answer
 returns-clause-answer c = λ a is.
-    c.alpha_top.ensures.exact a (told_sure c.args.words.now _ _ _) (record { shelf = Calm-none; input = Calm-none; out = Calm-none; notes = Calm-none }) is
+    c.alpha_top.ensures.exact a (told_sure c.args.words.now _ _ _)
+    (record { shelf = NoFault-none; input = NoFault-none; out = NoFault-none; notes = NoFault-none }) is
 
 pub returns-clause-whole : goal.returns-clause-whole
 returns-clause-whole c = c.alpha_top.ensures.whole
@@ -18,15 +19,17 @@ returns-clause-rest c = c.alpha_top.ensures.rest
 
 pub returns-clause-streams : goal.returns-clause-streams
 returns-clause-streams c =
-    let calm : c.alpha_top.result ≢ SinkFault = λ e. ⊎_elim Rose-none Rose-none (c.alpha_top.ensures.part e).failed in
+    let calm : c.alpha_top.result ≢ SinkFault =
+    λ e. ⊎_elim Faulted-none Faulted-none (c.alpha_top.ensures.part e).failed in
     let ends = c.alpha_top.ensures.whole calm in
-    (λ e. tried_not_input _ _ c.args.words.now _ ends.tried Rose-none ends.is (sym ends.status_is ∙ e), calm)
+    (λ e. tried_not_input _ _ c.args.words.now _ ends.tried Faulted-none ends.is (sym ends.status_is ∙ e), calm)
 
 pub returns-clause-shelf : goal.returns-clause-shelf
 returns-clause-shelf c = λ command asks there e.
-    let calm : c.alpha_top.result ≢ SinkFault = λ q. ⊎_elim Rose-none Rose-none (c.alpha_top.ensures.part q).failed in
+    let calm : c.alpha_top.result ≢ SinkFault =
+    λ q. ⊎_elim Faulted-none Faulted-none (c.alpha_top.ensures.part q).failed in
     let ends = c.alpha_top.ensures.whole calm in
-    tried_there _ _ c.args.words.now command _ ends.tried Rose-none asks there ends.is (sym ends.status_is ∙ e)
+    tried_there _ _ c.args.words.now command _ ends.tried Faulted-none asks there ends.is (sym ends.status_is ∙ e)
 
 pub returns-clause-files : goal.returns-clause-files
 returns-clause-files c = c.alpha_top.ensures.files

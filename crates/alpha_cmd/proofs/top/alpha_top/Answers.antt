@@ -1,11 +1,11 @@
 use Rattle.std.proofs.Common.{◌≡◌, refl, rules, inr}
-use Rattle.alpha_io.specs.Sunk.{sunk}
+use Rattle.alpha_io.specs.SinkChange.{sink_change}
 use Rattle.alpha_cmd.specs.declared.status.Status.TheVariants.{Done, SinkFault}
 use Rattle.alpha_cmd.specs.AnswerBy.{told}
-use Rattle.alpha_cmd.specs.Asks.{Asks}
+use Rattle.alpha_cmd.specs.Asks.{AsksFor}
 use Rattle.alpha_cmd.specs.Call.{Call, called}
 use Rattle.alpha_cmd.specs.RunsAsked.{RunsAsked}
-use Rattle.alpha_cmd.proofs.Promised as promised
+use Rattle.alpha_cmd.proofs.CallPromises as promised
 use Rattle.alpha_cmd.proofs.RunsOnReplies.{ran_on, runs_on, sink_unended}
 use Rattle.alpha_cmd.proofs.EndsWhere.{delivered_ends, failed_ends}
 use Rattle.alpha_cmd.proofs.top.alpha_top.Goals as goal
@@ -25,83 +25,95 @@ returns-in-Ok g c =
     let status = c.deliver.result in
     let is = c.deliver.ensures.status in
     let how =
-    promised.delivered g.K.Sink g.N.Sink old.out mid.out c.deliver.new.out old.notes mid.notes c.deliver.new.notes words did c.in-Ok.decision status
-    c.in-Ok.ensures.tried is c.deliver.ensures.output c.deliver.ensures.notes c.deliver.ensures.output_part c.deliver.ensures.notes_part c.deliver.ensures.failed in
-    let given : Call = record did { out = sunk g.K.Sink old.out c.deliver.new.out; notes = sunk g.N.Sink old.notes c.deliver.new.notes } in
+    promised.Leaves-CallEnded g.K.Sink g.N.Sink old.out mid.out c.deliver.new.out old.notes mid.notes
+    c.deliver.new.notes words
+    did c.in-Ok.decision status
+    c.in-Ok.ensures.tried is c.deliver.ensures.output c.deliver.ensures.notes c.deliver.ensures.output_part
+    c.deliver.ensures.notes_part c.deliver.ensures.failed in
+    let given : Call = record did {
+      out = sink_change g.K.Sink old.out c.deliver.new.out;
+      notes = sink_change g.N.Sink old.notes c.deliver.new.notes;
+    } in
     let shows =
-    runs_on g.K.Sink g.N.Sink old.out mid.out c.deliver.new.out old.notes mid.notes c.deliver.new.notes words did c.in-Ok.decision status is c.deliver.ensures.output
+    runs_on g.K.Sink g.N.Sink old.out mid.out c.deliver.new.out old.notes mid.notes c.deliver.new.notes words did
+    c.in-Ok.decision status is c.deliver.ensures.output
     c.deliver.ensures.notes c.in-Ok.ensures.ran in
     let runs : RunsAsked words status given = λ command asks. record {
       shows = shows command asks;
       ends = delivered_ends command status decided did.shelf is (c.in-Ok.ensures.ends command asks);
     } in
     record {
-      whole = promised.whole how;
-      part = promised.part how;
+      whole = promised.CallEnded-EndsWhole how;
+      part = promised.CallEnded-EndsCut how;
       shelf = search rules;
-      files = promised.spares status decided is words did.shelf.old did.shelf.new c.in-Ok.ensures.files;
-      input = promised.takes status decided is (mid.input ≡ old.input) words c.in-Ok.ensures.input;
+      files = promised.SparesFiles-decided status decided is words did.shelf.old did.shelf.new c.in-Ok.ensures.files;
+      input = promised.TakesInput-decided status decided is (mid.input ≡ old.input) words c.in-Ok.ensures.input;
       source = search rules;
-      ended = promised.ended how;
-      found = promised.found how;
+      ended = promised.CallEnded-EndsAsked how;
+      found = promised.CallEnded-LosesNone how;
       rest = c.in-Ok.ensures.rest;
       script = c.in-Ok.ensures.script;
-      given = promised.given how;
-      exact = promised.exact how;
-      replied = promised.replied status decided is words did.shelf c.in-Ok.ensures.replied;
-      restarts = promised.restarts status decided is words did.shelf c.in-Ok.ensures.replied;
-      checked = promised.checked status decided is words did.shelf c.in-Ok.ensures.replied;
-      accepted = promised.accepted how;
-      alike = promised.alike how;
-      ran_told = promised.ran how;
+      given = promised.CallEnded-GivesOne how;
+      exact = promised.CallEnded-GivesThe how;
+      replied = promised.Replies-decided status decided is words did.shelf c.in-Ok.ensures.replied;
+      restarts = promised.Replies-Restarts status decided is words did.shelf c.in-Ok.ensures.replied;
+      checked = promised.Replies-Checked status decided is words did.shelf c.in-Ok.ensures.replied;
+      accepted = promised.CallEnded-Accepts how;
+      alike = promised.CallEnded-Alike how;
+      ran_told = promised.CallEnded-RanTold how;
       runs = runs;
       ran = ran_on words status given runs;
-      unread = promised.unread how;
+      unread = promised.CallEnded-Unread how;
       unread_alike = promised.unread_alike how;
-      fixed = promised.fixed how;
-      modules = promised.modules how;
-      links = promised.links how;
-      replays = promised.replays how;
-      recorded = promised.keeps status decided is (Asks words) (told did) did.shelf.new c.in-Ok.ensures.recorded;
+      fixed = promised.CallEnded-Fixes how;
+      modules = promised.CallEnded-KeepsModules how;
+      links = promised.CallEnded-KeepsLinks how;
+      replays = promised.CallEnded-ShowsRuns how;
+      recorded =
+          promised.KeepsUnder-decided status decided is (AsksFor words)
+          (told did) did.shelf.new c.in-Ok.ensures.recorded;
     }
 
 -- a sink failed on the way
 pub returns-in-Err : goal.returns-in-Err
 returns-in-Err g c =
     let did = called g.H.Shelf g.S.Source g.K.Sink g.N.Sink c.args.devices.now c.decide.new.devices in
-    let how : promised.Ended c.args.words.now SinkFault did = promised.failed refl c.in-Err.ensures.tried in
+    let how : promised.CallEnded c.args.words.now SinkFault did = promised.failed refl c.in-Err.ensures.tried in
     record {
-      whole = promised.whole how;
-      part = promised.part how;
+      whole = promised.CallEnded-EndsWhole how;
+      part = promised.CallEnded-EndsCut how;
       shelf = search rules;
       files = c.in-Err.ensures.files;
       input = c.in-Err.ensures.input;
       source = search rules;
-      ended = promised.ended how;
-      found = promised.found how;
+      ended = promised.CallEnded-EndsAsked how;
+      found = promised.CallEnded-LosesNone how;
       rest = c.in-Err.ensures.rest;
       script = c.in-Err.ensures.script;
-      given = promised.given how;
-      exact = promised.exact how;
+      given = promised.CallEnded-GivesOne how;
+      exact = promised.CallEnded-GivesThe how;
       replied = λ command asks e. absurd (let x : SinkFault ≡ Done 0 = e in cc);
       restarts = λ file asks e. absurd (let x : SinkFault ≡ Done 0 = e in cc);
       checked = λ file is plain e. absurd (let x : SinkFault ≡ Done 0 = e in cc);
-      accepted = promised.accepted how;
-      alike = promised.alike how;
-      ran_told = promised.ran how;
+      accepted = promised.CallEnded-Accepts how;
+      alike = promised.CallEnded-Alike how;
+      ran_told = promised.CallEnded-RanTold how;
       runs = λ command asks. record {
         shows = λ ends. absurd (sink_unended ends);
         ends = failed_ends command SinkFault did.shelf (inr (inr refl));
       };
       ran = λ file plain. (
         λ is. record { shows = λ ends. absurd (sink_unended ends); ends = λ image good has read. inr (inr (inr refl)) },
-        λ is. record { shows = λ ends. absurd (sink_unended ends); ends = λ image good accepted read. inr (inr (inr refl)) },
+        λ is. record {
+          shows = λ ends. absurd (sink_unended ends);
+          ends = λ image good accepted read. inr (inr (inr refl));
+        },
       );
-      unread = promised.unread how;
+      unread = promised.CallEnded-Unread how;
       unread_alike = promised.unread_alike how;
-      fixed = promised.fixed how;
-      modules = promised.modules how;
-      links = promised.links how;
-      replays = promised.replays how;
+      fixed = promised.CallEnded-Fixes how;
+      modules = promised.CallEnded-KeepsModules how;
+      links = promised.CallEnded-KeepsLinks how;
+      replays = promised.CallEnded-ShowsRuns how;
       recorded = c.in-Err.ensures.recorded;
     }

@@ -1,6 +1,6 @@
 use Rattle.std.proofs.Common.{◌≡◌, ◌∙◌, [], Some, IfOk, refl, sym, ap, subst, inl, inr, ⊎_elim}
-use Rattle.alpha_io.specs.Faults.{Rose}
-use Rattle.alpha_io.proofs.Shelved.{KeepsFiles-refl}
+use Rattle.alpha_io.specs.Faults.{Faulted}
+use Rattle.alpha_io.proofs.ShelfLaws.{KeepsFiles-refl}
 use Rattle.alpha_request.specs.Command.{Command, record_run}
 use Rattle.alpha_request.specs.CommandOf.{command_of}
 use Rattle.alpha_request.proofs.Blocks.{asked_blocks}
@@ -10,14 +10,14 @@ use Rattle.alpha_cmd.specs.Decision.{answer_in}
 use Rattle.alpha_cmd.specs.Ends.{status_in}
 use Rattle.alpha_cmd.specs.Commands.{form_of}
 use Rattle.alpha_cmd.specs.Form.{Kind, MayTakeBy, SparesBy}
-use Rattle.alpha_cmd.specs.Does.{TriesIn}
+use Rattle.alpha_cmd.specs.CommandEffect.{AttemptIn}
 use Rattle.alpha_cmd.specs.Promises.{tried_in}
 use Rattle.alpha_cmd.specs.RunsAsked.{DecidesAsked, EndsAsRun}
 use Rattle.alpha_cmd.specs.Replied.{Replied}
-use Rattle.alpha_cmd.proofs.Endings.{Leaves-all, Decides-map}
-use Rattle.alpha_cmd.proofs.RunsOnReplies.{said_unended, words_unended}
-use Rattle.alpha_cmd.proofs.Told.{tail_same}
-use Rattle.alpha_cmd.proofs.Tried.{asked_tried, kind_is}
+use Rattle.alpha_cmd.proofs.CallEndings.{Leaves-all, OutcomeOrFault-map}
+use Rattle.alpha_cmd.proofs.RunsOnReplies.{printed_unended, words_unended}
+use Rattle.alpha_cmd.proofs.SessionsTold.{tail_same}
+use Rattle.alpha_cmd.proofs.AttemptedBy.{asked_tried, kind_is}
 use Rattle.alpha_cmd.proofs.EndsWhere.{failed_ends}
 use Rattle.alpha_cmd.proofs.top.decide.Goals as goal
 
@@ -29,14 +29,21 @@ returns-in-Ok g c =
     let does = c.perform.ensures.does in
     record {
       tried =
-          Decides-map (TriesIn (form_of command) did) (tried_in c.args.words.now did)
-          (λ t. asked_tried (Rose did.shelf.before did.shelf.now) (Rose did.input.before did.input.now) c.args.words.now command (told did) t asks)
+          OutcomeOrFault-map (AttemptIn (form_of command) did) (tried_in c.args.words.now did)
+          (λ t. asked_tried (Faulted did.shelf.before did.shelf.now)
+          (Faulted did.input.before did.input.now) c.args.words.now command (told did) t asks)
           did.shelf did.shelf (λ kept h. h) c.perform.result did.input.new.left did.out did.notes does.tried;
       shelf = does.shelf;
-      files = inr (command, asks, subst (λ (k : Kind). SparesBy k (status_in c.perform.result) did.shelf.old did.shelf.new) (kind_is command) does.files);
+      files = inr (
+        command,
+        asks,
+        subst (λ (k : Kind). SparesBy k (status_in c.perform.result) did.shelf.old did.shelf.new)
+            (kind_is command) does.files,
+      );
       input =
           ⊎_elim (λ (h : c.perform.new.devices.input ≡ c.args.devices.now.input). inl h)
-          (λ (h : MayTakeBy (form_of command).kind (status_in c.perform.result)). inr (command, asks, subst (λ (k : Kind). MayTakeBy k (status_in c.perform.result)) (kind_is command) h))
+          (λ (h : MayTakeBy (form_of command).kind (status_in c.perform.result)).
+          inr (command, asks, subst (λ (k : Kind). MayTakeBy k (status_in c.perform.result)) (kind_is command) h))
           does.input;
       source = does.source;
       rest = does.rest;
@@ -46,7 +53,9 @@ returns-in-Ok g c =
           subst (λ (x : Command). Replied x did.shelf) same (c.perform.ensures.replied done);
       ran = λ also asked ends.
           let same : command ≡ also = (let e = sym asks ∙ asked in cc) in
-          subst (λ (x : Command). IfOk c.perform.result (λ decision. DecidesAsked x decision did.shelf did.input did.out did.notes)) same (c.perform.ensures.ran ends);
+          subst (λ (x : Command).
+          IfOk c.perform.result (λ decision. DecidesAsked x decision did.shelf did.input did.out did.notes))
+          same (c.perform.ensures.ran ends);
       ends = λ also asked.
           let same : command ≡ also = (let e = sym asks ∙ asked in cc) in
           subst (λ (x : Command). EndsAsRun x (status_in c.perform.result) did.shelf) same c.perform.ensures.ends;
@@ -61,14 +70,19 @@ returns-in-Err-BadWords-clause-rest g c = λ bytes tells. ([], bytes, refl, tell
 pub returns-in-Err-BadWords-clause-tried : goal.returns-in-Err-BadWords-clause-tried
 returns-in-Err-BadWords-clause-tried g c =
     let did = called g.H.Shelf g.S.Source g.K.Sink g.N.Sink c.args.devices.now c.args.devices.now in
-    Leaves-all (tried_in c.args.words.now did) (answer_in did.input.new.left c.said.result) did.shelf did.out.old did.notes.old did.out.now did.notes.now
-    (inl (inl (rw c.in-Err-BadWords.field-0-is at c.in-Err-BadWords.ensures, c.said.ensures.answer did.input.new.left))) (KeepsFiles-refl did.shelf.old)
+    Leaves-all (tried_in c.args.words.now did)
+    (answer_in did.input.new.left c.of_status.result) did.shelf did.out.old did.notes.old did.out.now did.notes.now
+    (inl
+    (inl (rw c.in-Err-BadWords.field-0-is at c.in-Err-BadWords.ensures, c.of_status.ensures.answer did.input.new.left)))
+    (KeepsFiles-refl did.shelf.old)
 
 pub returns-in-Err-BadWords-clause-replied : goal.returns-in-Err-BadWords-clause-replied
-returns-in-Err-BadWords-clause-replied g c = λ command asks done. absurd (let x = sym c.said.ensures.status ∙ done in cc)
+returns-in-Err-BadWords-clause-replied g c =
+    λ command asks done. absurd (let x = sym c.of_status.ensures.status ∙ done in cc)
 
 pub returns-in-Err-NoMemory-clause-replied : goal.returns-in-Err-NoMemory-clause-replied
-returns-in-Err-NoMemory-clause-replied g c = λ command asks done. absurd (let x = sym c.said-in-Err-NoMemory.ensures.status ∙ done in cc)
+returns-in-Err-NoMemory-clause-replied g c =
+    λ command asks done. absurd (let x = sym c.of_status-in-Err-NoMemory.ensures.status ∙ done in cc)
 
 pub returns-in-Err-NoMemory-clause-rest : goal.returns-in-Err-NoMemory-clause-rest
 returns-in-Err-NoMemory-clause-rest g c = λ bytes tells. ([], bytes, refl, tells)
@@ -76,20 +90,24 @@ returns-in-Err-NoMemory-clause-rest g c = λ bytes tells. ([], bytes, refl, tell
 pub returns-in-Err-NoMemory-clause-tried : goal.returns-in-Err-NoMemory-clause-tried
 returns-in-Err-NoMemory-clause-tried g c =
     let did = called g.H.Shelf g.S.Source g.K.Sink g.N.Sink c.args.devices.now c.args.devices.now in
-    Leaves-all (tried_in c.args.words.now did) (answer_in did.input.new.left c.said-in-Err-NoMemory.result) did.shelf did.out.old did.notes.old did.out.now did.notes.now
-    (inr (inr (c.said-in-Err-NoMemory.ensures.answer did.input.new.left))) (KeepsFiles-refl did.shelf.old)
+    Leaves-all (tried_in c.args.words.now did) (answer_in did.input.new.left c.of_status-in-Err-NoMemory.result)
+    did.shelf did.out.old did.notes.old did.out.now did.notes.now
+    (inr (inr (c.of_status-in-Err-NoMemory.ensures.answer did.input.new.left))) (KeepsFiles-refl did.shelf.old)
 
 pub returns-in-Err-NoMemory-clause-script : goal.returns-in-Err-NoMemory-clause-script
-returns-in-Err-NoMemory-clause-script g c = λ file asks. tail_same (g.S.Source.left c.args.devices.now.input) (g.S.Source.left c.args.devices.now.input) refl
+returns-in-Err-NoMemory-clause-script g c =
+    λ file asks. tail_same (g.S.Source.left c.args.devices.now.input) (g.S.Source.left c.args.devices.now.input) refl
 
 pub perform-requires : goal.perform-requires
 perform-requires g c = record { blocks = λ n is. asked_blocks c.args.words.now n (c.in-Ok.ensures ∙ ap Some is) }
 
 pub returns-in-Err-BadWords-clause-ran : goal.returns-in-Err-BadWords-clause-ran
-returns-in-Err-BadWords-clause-ran g c = λ command asks ends. absurd (words_unended c.said.result c.said.ensures.status ends)
+returns-in-Err-BadWords-clause-ran g c =
+    λ command asks ends. absurd (words_unended c.of_status.result c.of_status.ensures.status ends)
 
 pub returns-in-Err-NoMemory-clause-ran : goal.returns-in-Err-NoMemory-clause-ran
-returns-in-Err-NoMemory-clause-ran g c = λ command asks ends. absurd (said_unended c.said-in-Err-NoMemory.result c.said-in-Err-NoMemory.ensures.status ends)
+returns-in-Err-NoMemory-clause-ran g c = λ command asks ends.
+    absurd (printed_unended c.of_status-in-Err-NoMemory.result c.of_status-in-Err-NoMemory.ensures.status ends)
 
 pub returns-in-Err-BadWords-clause-ends : goal.returns-in-Err-BadWords-clause-ends
 returns-in-Err-BadWords-clause-ends g c = λ command asks.
@@ -98,4 +116,4 @@ returns-in-Err-BadWords-clause-ends g c = λ command asks.
 
 pub returns-in-Err-NoMemory-clause-ends : goal.returns-in-Err-NoMemory-clause-ends
 returns-in-Err-NoMemory-clause-ends g c = λ command asks.
-    failed_ends command c.said-in-Err-NoMemory.result.status _ (inl c.said-in-Err-NoMemory.ensures.status)
+    failed_ends command c.of_status-in-Err-NoMemory.result.status _ (inl c.of_status-in-Err-NoMemory.ensures.status)

@@ -1,6 +1,6 @@
 use Rattle.std.proofs.Common.{◌≡◌, ◌∙◌, sym, ap}
-use Rattle.alpha_io.specs.Shelved.{shelved}
-use Rattle.alpha_io.specs.Sunk.{sunk}
+use Rattle.alpha_io.specs.ShelfChange.{shelf_change}
+use Rattle.alpha_io.specs.SinkChange.{sink_change}
 use Rattle.alpha_seq.specs.Devices.{drawn}
 use Rattle.alpha_request.specs.Options.{origin_of}
 use Rattle.alpha_request.specs.Command.{of_image, debug}
@@ -13,11 +13,14 @@ use Rattle.alpha_cmd.proofs.top.perform.Goals as goal
 
 pub returns-in-OfImage-clause-script : goal.returns-in-OfImage-clause-script
 returns-in-OfImage-clause-script g c = λ file is.
-    c.of_image.ensures.script (let e : of_image c.in-OfImage.what c.in-OfImage.file.now ≡ debug file = sym (ap command_of c.in-OfImage.is) ∙ is in cc)
+    c.of_image.ensures.script (let e : of_image c.in-OfImage.command c.in-OfImage.file.now ≡ debug file =
+    sym (ap command_of c.in-OfImage.is) ∙ is in cc)
 
 pub returns-in-OfImage-clause-replied : goal.returns-in-OfImage-clause-replied
 returns-in-OfImage-clause-replied g c = λ done.
-    rw c.in-OfImage.is (of_image_replied c.in-OfImage.what c.in-OfImage.file.now (shelved g.H.Shelf c.args.devices.now.shelf c.of_image.new.devices.shelf)
+    rw c.in-OfImage.is
+    (of_image_replied c.in-OfImage.command c.in-OfImage.file.now
+    (shelf_change g.H.Shelf c.args.devices.now.shelf c.of_image.new.devices.shelf)
     (λ is. c.of_image.ensures.checked is done))
 
 pub returns-in-Make-clause-replied : goal.returns-in-Make-clause-replied
@@ -43,8 +46,10 @@ returns-in-RunImprecise-clause-ran g c =
     let i = c.in-RunImprecise in
     let old = c.args.devices.now in
     let new = c.imprecise.new.devices in
-    rw i.is (imprecise_asked i.options (origin_of i.choices) i.force i.file.now c.imprecise.result (shelved g.H.Shelf old.shelf new.shelf) (drawn g.S.Source old.input new.input)
-    (sunk g.K.Sink old.out new.out) (sunk g.N.Sink old.notes new.notes) c.imprecise.ensures.ran)
+    rw i.is
+    (imprecise_asked i.options (origin_of i.choices) i.force i.file.now c.imprecise.result
+    (shelf_change g.H.Shelf old.shelf new.shelf) (drawn g.S.Source old.input new.input)
+    (sink_change g.K.Sink old.out new.out) (sink_change g.N.Sink old.notes new.notes) c.imprecise.ensures.ran)
 
 pub returns-in-OfImage-clause-ran : goal.returns-in-OfImage-clause-ran
 returns-in-OfImage-clause-ran g c = rw c.in-OfImage.is (other_asked c.of_image.result)
@@ -71,7 +76,7 @@ pub returns-in-RunImprecise-clause-ends : goal.returns-in-RunImprecise-clause-en
 returns-in-RunImprecise-clause-ends g c =
     let i = c.in-RunImprecise in
     rw i.is (imprecise_ends i.options (origin_of i.choices) i.force i.file.now (status_in c.imprecise.result)
-    (shelved g.H.Shelf c.args.devices.now.shelf c.imprecise.new.devices.shelf) c.imprecise.ensures.ends)
+    (shelf_change g.H.Shelf c.args.devices.now.shelf c.imprecise.new.devices.shelf) c.imprecise.ensures.ends)
 
 pub returns-in-OfImage-clause-ends : goal.returns-in-OfImage-clause-ends
 returns-in-OfImage-clause-ends g c = rw c.in-OfImage.is tt

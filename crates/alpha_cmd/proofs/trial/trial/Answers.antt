@@ -3,25 +3,30 @@ use Rattle.alpha_trial.specs.Report.{trial_text}
 use Rattle.alpha_cmd.specs.declared.status.Status.TheVariants.{Done, NoMemory}
 use Rattle.alpha_cmd.specs.AnswerBy.{done_with}
 use Rattle.alpha_cmd.specs.Commands.Trial.{form}
-use Rattle.alpha_cmd.specs.Outcome.{goes}
-use Rattle.alpha_cmd.proofs.Doing.{does_put, does_put_part}
-use Rattle.alpha_cmd.proofs.Trying.{starts_not}
+use Rattle.alpha_cmd.specs.Outcome.{continues}
+use Rattle.alpha_cmd.proofs.StageEffects.{does_put, does_put_part}
+use Rattle.alpha_cmd.proofs.AttemptsByForm.{starts_not}
 use Rattle.alpha_cmd.proofs.trial.trial.Goals as goal
 
 pub returns-in-Ok : goal.returns-in-Ok
 returns-in-Ok g c =
     let text = trial_text c.args.blocks in
-    does_put g.H.Shelf g.S.Source g.K.Sink g.N.Sink c.args.devices.now c.trial.new.out (form c.args.blocks) text c.said.result (Done 0)
-    (inl (goes (done_with (g.S.Source.left c.args.devices.now.input) text), refl, refl)) c.said.ensures.answer c.in-Ok.ensures.ok
+    does_put g.H.Shelf g.S.Source g.K.Sink g.N.Sink c.args.devices.now c.trial.new.out
+    (form c.args.blocks) text c.of_status.result (Done 0)
+    (inl (continues (done_with (g.S.Source.left c.args.devices.now.input) text), refl, refl)) c.of_status.ensures.answer
+    c.in-Ok.ensures.ok
 
 -- without memory nothing was put
 pub returns-in-Err-NoMemory : goal.returns-in-Err-NoMemory
 returns-in-Err-NoMemory g c =
-    does_put g.H.Shelf g.S.Source g.K.Sink g.N.Sink c.args.devices.now c.trial.new.out (form c.args.blocks) [] c.said-in-Err-NoMemory.result NoMemory
-    (starts_not _ _ (form c.args.blocks) _ _ refl) c.said-in-Err-NoMemory.ensures.answer (c.in-Err-NoMemory.ensures.memory (ap Err c.in-Err-NoMemory.field-0-is))
+    does_put g.H.Shelf g.S.Source g.K.Sink g.N.Sink c.args.devices.now c.trial.new.out (form c.args.blocks)
+    [] c.of_status-in-Err-NoMemory.result NoMemory
+    (starts_not _ _ (form c.args.blocks) _ _ refl) c.of_status-in-Err-NoMemory.ensures.answer
+    (c.in-Err-NoMemory.ensures.memory (ap Err c.in-Err-NoMemory.field-0-is))
 
 pub returns-in-Err-Sink : goal.returns-in-Err-Sink
 returns-in-Err-Sink g c =
     let text = trial_text c.args.blocks in
     does_put_part g.H.Shelf g.S.Source g.K.Sink g.N.Sink c.args.devices.now c.trial.new.out (form c.args.blocks) text _
-    (goes (done_with (g.S.Source.left c.args.devices.now.input) text), refl, refl) c.in-Err-Sink.ensures.prefix (c.in-Err-Sink.ensures.sink (ap Err c.in-Err-Sink.field-0-is))
+    (continues (done_with (g.S.Source.left c.args.devices.now.input) text), refl, refl) c.in-Err-Sink.ensures.prefix
+    (c.in-Err-Sink.ensures.sink (ap Err c.in-Err-Sink.field-0-is))

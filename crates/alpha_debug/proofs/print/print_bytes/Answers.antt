@@ -1,12 +1,12 @@
 use Rattle.std.proofs.Common.{◌≡◌, ◌<◌, ◌*◌, ◌+◌, ◌++◌, ℕ, List, sym, ap, subst, ◌∙◌, arith}
 use Rattle.alpha_debug.specs.Lines.{rows, memory_line, memory_row}
-use Rattle.alpha_debug.proofs.Sinks.{OnErr-any, Gathers-both, Stops-after, Stops-more}
-use Rattle.alpha_debug.proofs.Printing.{rows-rest, rows-more, row-range}
-use Rattle.alpha_debug.specs.Gathered.{gathered_by, Gathers, Stops}
+use Rattle.alpha_debug.proofs.Sinks.{session_OnErr-any, AppendsOutput-both, SinkFailsWith-after, SinkFailsWith-more}
+use Rattle.alpha_debug.proofs.RowTexts.{rows-rest, rows-more, row-range}
+use Rattle.alpha_debug.specs.OutputChange.{output_change_by, AppendsOutput, SinkFailsWith}
 use Rattle.alpha_debug.proofs.print.print_bytes.Goals as goal
 
-pub returns-in_err-say-clause-refused : goal.returns-in_err-say-clause-refused
-returns-in_err-say-clause-refused g c =
+pub returns-in_err-emit-clause-refused : goal.returns-in_err-emit-clause-refused
+returns-in_err-emit-clause-refused g c =
     let written = g.K.Sink.written in
     let faults = g.K.Sink.faults in
     let row = memory_row c.args.at c.args.bytes.now in
@@ -15,11 +15,21 @@ returns-in_err-say-clause-refused g c =
     let less : k < n = omega arith in
     let rest = rows-rest row n k less in
     let line : c.as_bytes.result.now ≡ row k =
-    c.as_bytes.ensures ∙ (c.memory_line-line.ensures ∙ ap (memory_line (c.args.at + 16 * k)) (row-range c.args.bytes.now (16 * k) c.min-end.result c.min-end.ensures)) in
-    let stops : Stops (gathered_by written faults (c.loop-k.out, c.loop-k.block) (c.say.new.out, c.say.new.block)) (row k) = subst (Stops (gathered_by written faults (c.loop-k.out, c.loop-k.block) (c.say.new.out, c.say.new.block))) line c.in_err-say.ensures.refused in
-    let both = Stops-after written faults (c.args.out.now, c.args.block.now) (c.loop-k.out, c.loop-k.block) (c.say.new.out, c.say.new.block) (rows row k) (row k) c.loop-k.invariant stops in
-    let all = Stops-more (gathered_by written faults (c.args.out.now, c.args.block.now) (c.say.new.out, c.say.new.block)) (rows row k ++ row k) rest.more both in
-    OnErr-any c.from_residual.result (subst (λ (t : List ℕ). Stops (gathered_by written faults (c.args.out.now, c.args.block.now) (c.say.new.out, c.say.new.block)) t) (sym rest.is ∙ ap (rows row) c.div_ceil-k-end.ensures) all)
+    c.as_bytes.ensures ∙ (c.memory_line-line.ensures
+    ∙ ap (memory_line (c.args.at + 16 * k)) (row-range c.args.bytes.now (16 * k) c.min-end.result c.min-end.ensures)) in
+    let stops : SinkFailsWith
+    (output_change_by written faults (c.loop-k.out, c.loop-k.block) (c.emit.new.out, c.emit.new.block)) (row k) = subst
+    (SinkFailsWith (output_change_by written faults (c.loop-k.out, c.loop-k.block) (c.emit.new.out, c.emit.new.block)))
+    line c.in_err-emit.ensures.refused in
+    let both = SinkFailsWith-after written faults (c.args.out.now, c.args.block.now) (c.loop-k.out, c.loop-k.block)
+    (c.emit.new.out, c.emit.new.block) (rows row k) (row k) c.loop-k.invariant stops in
+    let all = SinkFailsWith-more
+    (output_change_by written faults (c.args.out.now, c.args.block.now) (c.emit.new.out, c.emit.new.block))
+    (rows row k ++ row k) rest.more both in
+    session_OnErr-any c.from_residual.result (subst (λ (t : List ℕ). SinkFailsWith (output_change_by written faults (
+      c.args.out.now,
+      c.args.block.now,
+    ) (c.emit.new.out, c.emit.new.block)) t) (sym rest.is ∙ ap (rows row) c.div_ceil-k-end.ensures) all)
 
 pub loop-k-preserved : goal.loop-k-preserved
 loop-k-preserved g c =
@@ -28,7 +38,15 @@ loop-k-preserved g c =
     let row = memory_row c.args.at c.args.bytes.now in
     let k = c.loop-k.k in
     let line : c.as_bytes.result.now ≡ row k =
-    c.as_bytes.ensures ∙ (c.memory_line-line.ensures ∙ ap (memory_line (c.args.at + 16 * k)) (row-range c.args.bytes.now (16 * k) c.min-end.result c.min-end.ensures)) in
-    let puts : Gathers (gathered_by written faults (c.loop-k.out, c.loop-k.block) (c.say.new.out, c.say.new.block)) (row k) = subst (Gathers (gathered_by written faults (c.loop-k.out, c.loop-k.block) (c.say.new.out, c.say.new.block))) line c.in_ok-say.ensures.ok in
-    subst (Gathers (gathered_by written faults (c.args.out.now, c.args.block.now) (c.say.new.out, c.say.new.block))) (sym (rows-more row k))
-    (Gathers-both written faults (c.args.out.now, c.args.block.now) (c.loop-k.out, c.loop-k.block) (c.say.new.out, c.say.new.block) (rows row k) (row k) c.loop-k.invariant puts)
+    c.as_bytes.ensures ∙ (c.memory_line-line.ensures
+    ∙ ap (memory_line (c.args.at + 16 * k)) (row-range c.args.bytes.now (16 * k) c.min-end.result c.min-end.ensures)) in
+    let puts : AppendsOutput
+    (output_change_by written faults (c.loop-k.out, c.loop-k.block) (c.emit.new.out, c.emit.new.block)) (row k) = subst
+    (AppendsOutput (output_change_by written faults (c.loop-k.out, c.loop-k.block) (c.emit.new.out, c.emit.new.block)))
+    line c.in_ok-emit.ensures.ok in
+    subst (AppendsOutput (output_change_by written faults (
+      c.args.out.now,
+      c.args.block.now,
+    ) (c.emit.new.out, c.emit.new.block))) (sym (rows-more row k))
+    (AppendsOutput-both written faults (c.args.out.now, c.args.block.now) (c.loop-k.out, c.loop-k.block)
+    (c.emit.new.out, c.emit.new.block) (rows row k) (row k) c.loop-k.invariant puts)

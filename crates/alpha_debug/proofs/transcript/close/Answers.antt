@@ -1,20 +1,23 @@
 use Rattle.std.proofs.Common.{ℕ, List, [], subst}
 use Rattle.alpha_debug.specs.Command.{command_of}
 use Rattle.alpha_debug.specs.Effects.{Answers, AnswerFails}
-use Rattle.alpha_debug.proofs.Underway.{Closes-answered, Closes-failed}
-use Rattle.alpha_debug.specs.Gathered.{gathered}
+use Rattle.alpha_debug.proofs.ScriptUnderway.{Closes-answered, Closes-failed}
+use Rattle.alpha_debug.specs.OutputChange.{output_change}
 use Rattle.alpha_debug.proofs.transcript.close.Goals as goal
 
 pub returns-in-Ok : goal.returns-in-Ok
 returns-in-Ok g c =
-    let out = gathered g.K.Sink c.args.out.now [] c.answer_last.new.out [] in
+    let out = output_change g.K.Sink c.args.out.now [] c.answer_last.new.out [] in
     λ begun is_held.
-    Closes-answered begun c.args.held.now.items c.in-Ok.field-0 c.args.debugger.now c.answer_last.new.debugger out is_held
-    (subst (λ (l : List ℕ). Answers (command_of l) c.in-Ok.field-0 c.args.debugger.now c.answer_last.new.debugger out) c.as_slice.ensures.value c.in-Ok.ensures.ok)
+    Closes-answered begun c.args.pending.now.items c.in-Ok.field-0 c.args.debugger.now c.answer_last.new.debugger out
+    is_held
+    (subst (λ (l : List ℕ). Answers (command_of l) c.in-Ok.field-0 c.args.debugger.now c.answer_last.new.debugger out)
+    c.as_slice.ensures.value c.in-Ok.ensures.ok)
 
 pub returns-in-Err : goal.returns-in-Err
 returns-in-Err g c =
-    let out = gathered g.K.Sink c.args.out.now [] c.answer_last.new.out [] in
+    let out = output_change g.K.Sink c.args.out.now [] c.answer_last.new.out [] in
     λ begun is_held.
-    Closes-failed begun c.args.held.now.items c.args.debugger.now out is_held
-    (subst (λ (l : List ℕ). AnswerFails (command_of l) c.args.debugger.now out) c.as_slice.ensures.value c.in-Err.ensures.refused)
+    Closes-failed begun c.args.pending.now.items c.args.debugger.now out is_held
+    (subst (λ (l : List ℕ). AnswerFails (command_of l) c.args.debugger.now out) c.as_slice.ensures.value
+    c.in-Err.ensures.refused)

@@ -1,11 +1,13 @@
-use Rattle.std.proofs.Common.{◌≡◌, ℕ, ◌+◌, ◌-◌, ◌/◌, ◌%◌, ◌^◌, ◌<◌, ◌≤◌, ◌∷◌, List, [], false, length, drop, set, sym, ap, subst, ◌∙◌, add-one, arith}
+use Rattle.std.proofs.Common.{◌≡◌, ℕ, ◌+◌, ◌-◌, ◌/◌, ◌%◌, ◌^◌, ◌<◌, ◌≤◌, ◌∷◌, List, [], false, length, drop, set, sym}
+use Rattle.std.proofs.Common.{ap, subst, ◌∙◌, add-one, arith}
 use Rattle.std.specs.Fmt.{digit_glyph}
 use Rattle.std.proofs.lemmas.List.{drop_all, drop-set, drop-set-lt, length-set}
 use Rattle.alpha_dis.proofs.Hexadecimal.{onto, onto-none, onto-more, onto-last, second_digit, fewer_digits}
 use Rattle.alpha_dis.proofs.digits.write_digits.Goals as goal
 
 -- what stands from the place on where a digit was written
-written_at : (out : List ℕ) (at x digit : ℕ) → at < length out → x ≡ digit → drop at (set out at x) ≡ digit ∷ drop (at + 1) (set out at x)
+written_at : (out : List ℕ) (at x digit : ℕ) → at < length out → x ≡ digit
+    → drop at (set out at x) ≡ digit ∷ drop (at + 1) (set out at x)
 written_at out at x digit within e =
     drop-set out at x within
     ∙ (ap (λ (d : ℕ). d ∷ drop (at + 1) out) e
@@ -19,7 +21,9 @@ loop-rest-init c =
     record {
       place = omega arith;
       within = c.ranges.number.fits;
-      last = written_at c.args.out.now 15 c.digit.result (digit_glyph false (c.args.number % 16)) (omega (arith, c.told-out)) c.digit.ensures;
+      last =
+          written_at c.args.out.now 15 c.digit.result (digit_glyph false (c.args.number % 16))
+          (omega (arith, c.told-out)) c.digit.ensures;
       written = ap (onto 16 c.args.number) none ∙ onto-none c.args.number;
     }
 
@@ -32,7 +36,8 @@ loop-rest-preserved c =
     let more : 16 ≤ l.rest = c.loop-rest-test.true in
     let some = second_digit l.at l.rest more l.invariant.within in
     let back : l.at ≡ at + 1 = omega arith in
-    let behind : drop (at + 1) (set l.out at x) ≡ drop l.at l.out = drop-set-lt (at + 1) l.out at x (omega arith) ∙ ap (λ (k : ℕ). drop k l.out) (sym back) in
+    let behind : drop (at + 1) (set l.out at x) ≡ drop l.at l.out =
+    drop-set-lt (at + 1) l.out at x (omega arith) ∙ ap (λ (k : ℕ). drop k l.out) (sym back) in
     record {
       place = omega arith;
       within = subst (λ (k : ℕ). rest < 16 ^ k) back (fewer_digits l.at l.rest l.invariant.within);
@@ -48,4 +53,5 @@ loop-rest-preserved c =
 pub returns-clause-value : goal.returns-clause-value
 returns-clause-value c =
     let l = c.loop-rest in
-    l.invariant.last ∙ (sym (onto-last (l.at + 1) l.rest (drop (l.at + 1) l.out) c.loop-rest-test.false) ∙ l.invariant.written)
+    l.invariant.last
+    ∙ (sym (onto-last (l.at + 1) l.rest (drop (l.at + 1) l.out) c.loop-rest-test.false) ∙ l.invariant.written)

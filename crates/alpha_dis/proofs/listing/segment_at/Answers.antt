@@ -6,4 +6,5 @@ pub returns : goal.returns
 returns c =
     let p = c.args.image.now in
     let found = c.in-Some-Some in
-    piece_at p.segments p.bytes c.args.n found.segment found.bytes.now (sym found.ensures.value) (sym found.ensures'.value)
+    piece_at p.segments p.bytes c.args.n found.segment found.bytes.now (sym found.ensures.value)
+    (sym found.ensures'.value)

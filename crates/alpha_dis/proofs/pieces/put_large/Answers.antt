@@ -17,6 +17,8 @@ returns-after-front-lt100-clause-value c =
       | else-front-lt100 w ↦ (λ i. before (w.next-is i) (w.bytes-is i)) ∙ w.put_hundreds-next.ensures.value
     ] in
     c.put_pair.ensures.value
-    ∙ (ap (λ (l : List ℕ). l ++ ones) (c.put_pair-next.ensures.value ∙ (ap (λ (l : List ℕ). l ++ tens) first ∙ append_assoc front (decimal (n / 10000)) tens))
+    ∙ (ap (λ (l : List ℕ). l ++ ones)
+    (c.put_pair-next.ensures.value
+    ∙ (ap (λ (l : List ℕ). l ++ tens) first ∙ append_assoc front (decimal (n / 10000)) tens))
     ∙ (append_assoc front (decimal (n / 10000) ++ tens) ones
     ∙ ap (λ (l : List ℕ). front ++ l) (sym (decimal_pairs n c.if-number-lt10000.false (omega arith)))))

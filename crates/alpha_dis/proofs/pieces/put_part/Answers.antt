@@ -8,5 +8,6 @@ pub returns-clause-value : goal.returns-clause-value
 returns-clause-value c =
     let at = c.args.at in
     let piece = c.args.piece.now in
-    ap (λ l. before (at + c.args.count) (put_mid at (at + length piece - at) c.args.bytes.now l)) c.copy_from_slice.ensures.after
+    ap (λ l. before (at + c.args.count) (put_mid at (at + length piece - at) c.args.bytes.now l))
+    c.copy_from_slice.ensures.after
     ∙ before-put_mid at (at + length piece - at) c.args.count c.args.bytes.now piece (omega arith) c.requires.count

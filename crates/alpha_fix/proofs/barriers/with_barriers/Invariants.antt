@@ -1,6 +1,6 @@
 use Rattle.std.proofs.Common.{◌≡◌, length}
 use Rattle.alpha_asm.specs.SourceLines.{source_lines}
-use Rattle.alpha_fix.proofs.Building.{Underway}
+use Rattle.alpha_fix.proofs.FixedText.{TextUnderway}
 use Rattle.alpha_fix.proofs.Roles.{kinds_from}
 use Rattle.alpha_fix.proofs.barriers.with_barriers.Given as goal
 
@@ -9,6 +9,6 @@ decreases-loop-rest l = length l.rest
 
 abbrev pub invariant-loop-rest : goal.invariant-loop-rest
 invariant-loop-rest l = record {
-  text : Underway l.source l.cuts l.words l.base l.rest l.text.items l.left l.number l.place;
+  text : TextUnderway l.source l.cuts l.words l.base l.rest l.text.items l.left l.number l.place;
   kinds : l.kinds ≡ kinds_from (source_lines l.rest);
 }

@@ -10,4 +10,5 @@ pub returns-clause-fields : goal.returns-clause-fields
 returns-clause-fields c = λ n. (FieldsFit-least n, least-FieldsFit n)
 
 pub returns-clause-parts : goal.returns-clause-parts
-returns-clause-parts c = λ p suits filled words bytes. (IsImage-parts_fault p suits filled words bytes, parts_fault-IsImage p)
+returns-clause-parts c =
+    λ p suits filled words bytes. (IsImage-parts_fault p suits filled words bytes, parts_fault-IsImage p)

@@ -16,4 +16,5 @@ returns-clause-form c =
     HasForm-checked bytes c.in_ok-header.ensures.fault
     (subst (λ (n : Numbers). FieldsFit n) numbers c.in_default.ensures.good)
     (c.if-given-wanted.false ∙ (c.size-wanted.ensures.value
-    ∙ (ap (λ (v : Version). size_of v (header_numbers h)) version ∙ ap (λ (n : Numbers). size_of (version_of bytes) n) numbers)))
+    ∙ (ap (λ (v : Version). size_of v (header_numbers h)) version
+    ∙ ap (λ (n : Numbers). size_of (version_of bytes) n) numbers)))

@@ -4,17 +4,20 @@ use Rattle.alpha_image.specs.declared.fault.ImageFault.{ImageFault}
 use Rattle.alpha_image.specs.Numbers.{Numbers}
 use Rattle.alpha_image.specs.Header.{header_numbers}
 use Rattle.alpha_image.specs.Reading.{words_of, numbered_level}
-use Rattle.alpha_image.specs.Parts.{Parts, spelling}
+use Rattle.alpha_image.specs.Parts.{Parts, image_spelling}
 use Rattle.alpha_image.specs.PartsOf.{parts_with, parts_of}
 use Rattle.alpha_image.specs.ImageFault.{form_fault, word_fault}
 use Rattle.alpha_image.specs.Tells.{Tells}
-use Rattle.alpha_image.proofs.Form.{parts_with-cut, Refuses-form_fault, first_fault-form, spelling-parts_of, cut_behind}
+use Rattle.alpha_image.proofs.Form.{parts_with-cut, Refuses-form_fault, first_fault-form, image_spelling-parts_of}
+use Rattle.alpha_image.proofs.Form.{cut_behind}
 use Rattle.alpha_image.proofs.read.read_image.Goals as goal
 
 pub returns-in_err-header-clause-fault : goal.returns-in_err-header-clause-fault
 returns-in_err-header-clause-fault c =
     let p = err_from_is_err_and c.from_residual.result c.from_residual.ensures.1 in
-    rw (p.1, p.2) (Refuses-form_fault c.in_err-header.field-0.0 c.args.bytes.now c.in_err-header.ensures.memory c.in_err-header.ensures.fault)
+    rw (p.1, p.2)
+    (Refuses-form_fault c.in_err-header.field-0.0 c.args.bytes.now c.in_err-header.ensures.memory
+    c.in_err-header.ensures.fault)
 
 pub returns-clause-spelled : goal.returns-clause-spelled
 returns-clause-spelled c =
@@ -22,11 +25,17 @@ returns-clause-spelled c =
     let h = c.in_ok-header.header in
     let n = header_numbers h in
     let ensures = c.in_ok-header.ensures in
-    let cut = cut_behind bytes c.front_size.result h.version n (4 * h.words) c.split_at.result.0.now c.split_at.result.1.now c.front_size.ensures.value ensures.version ensures.numbers refl c.split_at.ensures.front c.split_at.ensures.back in
-    let parts = parts_with-cut bytes c.split_at.result.0.now c.split_at.result.1.now h.version n ensures.version ensures.numbers cut.0 cut.1 in
-    let whole : bytes ≡ spelling (parts_of bytes) = spelling-parts_of bytes (λ i. omega (arith, c.type_inv.bytes i)) ensures.form in
-    IfOk-weaker c.checked.result (λ (image : Parts). image ≡ parts_with h.version n (words_of c.split_at.result.0.now) c.split_at.result.1.now) (λ (image : Parts). bytes ≡ spelling image)
-    (λ image e. whole ∙ ap spelling (sym (e ∙ parts))) c.checked.ensures.parts
+    let cut =
+    cut_behind bytes c.front_size.result h.version n (4 * h.words) c.split_at.result.0.now c.split_at.result.1.now
+    c.front_size.ensures.value ensures.version ensures.numbers refl c.split_at.ensures.front c.split_at.ensures.back in
+    let parts = parts_with-cut bytes c.split_at.result.0.now c.split_at.result.1.now h.version n ensures.version
+    ensures.numbers cut.0 cut.1 in
+    let whole : bytes ≡ image_spelling (parts_of bytes) =
+    image_spelling-parts_of bytes (λ i. omega (arith, c.type_inv.bytes i)) ensures.form in
+    IfOk-weaker c.checked.result
+    (λ (image : Parts). image ≡ parts_with h.version n (words_of c.split_at.result.0.now) c.split_at.result.1.now)
+    (λ (image : Parts). bytes ≡ image_spelling image)
+    (λ image e. whole ∙ ap image_spelling (sym (e ∙ parts))) c.checked.ensures.parts
 
 pub returns-clause-fault : goal.returns-clause-fault
 returns-clause-fault c =
@@ -35,7 +44,9 @@ returns-clause-fault c =
     let n = header_numbers h in
     let ensures = c.in_ok-header.ensures in
     let code = c.split_at.result.0.now in
-    let cut = cut_behind bytes c.front_size.result h.version n (4 * h.words) code c.split_at.result.1.now c.front_size.ensures.value ensures.version ensures.numbers refl c.split_at.ensures.front c.split_at.ensures.back in
+    let cut = cut_behind bytes c.front_size.result h.version n (4 * h.words) code c.split_at.result.1.now
+    c.front_size.ensures.value ensures.version ensures.numbers refl c.split_at.ensures.front c.split_at.ensures.back in
     let none : form_fault bytes ≡ None = ensures.fault in
     let level = ap (λ (m : Numbers). word_fault (numbered_level m.level) (words_of code)) ensures.numbers in
-    subst (λ (fault : Option ImageFault). Tells c.checked.result fault) (level ∙ first_fault-form bytes code none cut.0) c.checked.ensures.fault
+    subst (λ (fault : Option ImageFault). Tells c.checked.result fault)
+    (level ∙ first_fault-form bytes code none cut.0) c.checked.ensures.fault

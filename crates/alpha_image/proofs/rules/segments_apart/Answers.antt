@@ -1,10 +1,10 @@
 use Rattle.std.proofs.Common.{◌≡◌, ◌≤◌, ◌+◌, ◌⊎◌, ◌^◌, arith, sym, ◌∙◌, get_or, inl, inr, ⊎_elim}
 use Rattle.alpha_image.specs.Rules.{size_of_segment}
-use Rattle.alpha_image.proofs.Apart.{nowhere, follow-zero, follow_more}
+use Rattle.alpha_image.proofs.Apart.{nowhere, are_above-zero, follow_more}
 use Rattle.alpha_image.proofs.rules.segments_apart.Goals as goal
 
 pub loop-s-init : goal.loop-s-init
-loop-s-init c = record { bound = omega arith; same = sym (follow-zero c.args.segments.now) }
+loop-s-init c = record { bound = omega arith; same = sym (are_above-zero c.args.segments.now) }
 
 pub loop-s-preserved : goal.loop-s-preserved
 loop-s-preserved c =
@@ -13,8 +13,12 @@ loop-s-preserved c =
     let h = c.region-region.ensures.value in
     let small : s.base + size_of_segment s ≤ 2 ^ 30 = c.requires.sizes i nowhere (omega arith) in
     let end = rw h at c.max-end.ensures in
-    let clear : (size_of_segment s ≡ 0) ⊎ (c.loop-s.end ≤ s.base) = ⊎_elim (λ p. inr p.1) (λ q. inl (omega (arith, q))) (rw h at c.else-region-gt0.either) in
+    let clear : (size_of_segment s ≡ 0) ⊎ (c.loop-s.end ≤ s.base) =
+    ⊎_elim (λ p. inr p.1) (λ q. inl (omega (arith, q))) (rw h at c.else-region-gt0.either) in
     record {
       bound = omega arith;
-      same = c.loop-s.invariant.same ∙ follow_more c.args.segments.now i c.loop-s.end c.max-end.result nowhere c.requires.rise (omega arith) clear end;
+      same =
+          c.loop-s.invariant.same
+          ∙ follow_more c.args.segments.now i c.loop-s.end c.max-end.result nowhere c.requires.rise
+          (omega arith) clear end;
     }

@@ -5,7 +5,8 @@ use Rattle.alpha_image.proofs.segment.read_segments.Goals as goal
 
 pub push-requires : goal.push-requires
 push-requires c =
-    let few : length c.loop-n.segments.items < 8 = omega (arith, ap length c.loop-n.invariant, length-segments_in c.loop-n.n c.args.bytes.now) in
+    let few : length c.loop-n.segments.items < 8 =
+    omega (arith, ap length c.loop-n.invariant, length-segments_in c.loop-n.n c.args.bytes.now) in
     (omega arith, few)
 
 pub loop-n-preserved : goal.loop-n-preserved

@@ -13,7 +13,9 @@ returns-in_default-insn_at-clause-fault c =
     let same : c.word_at-word.result.0 ≡ get_or words c.loop-place.place 0 = c.word_at-word.ensures.value in
     let here : is_there c.args.level (decoded (get_or words c.loop-place.place 0)) ≡ false =
     ap (λ (w : ℕ). is_there c.args.level (decoded w)) (sym same) ∙ sym c.in_default-insn_at.ensures.value in
-    rw (c.bad_word.ensures, same) (word_fault-first c.args.level words _ (omega (arith, length-words_of c.args.code.now)) c.loop-place.invariant.inside here)
+    rw (c.bad_word.ensures, same)
+    (word_fault-first c.args.level words _
+    (omega (arith, length-words_of c.args.code.now)) c.loop-place.invariant.inside here)
 
 pub loop-place-preserved : goal.loop-place-preserved
 loop-place-preserved c =
@@ -26,7 +28,8 @@ loop-place-preserved c =
     record {
       inside = below_more _ _ c.loop-place.invariant.inside there;
       read =
-          one_more words c.loop-place.insns.items at c.in-Some.insn (omega (arith, length-words_of c.args.code.now)) c.loop-place.invariant.read here
+          one_more words c.loop-place.insns.items at c.in-Some.insn
+          (omega (arith, length-words_of c.args.code.now)) c.loop-place.invariant.read here
           ∙ ap (map Some) (sym c.push_reserved.ensures.items);
       count = c.push_reserved.ensures.len ∙ ap (λ (n : ℕ). n + 1) c.loop-place.invariant.count;
       room = rw c.push_reserved.ensures.capacity c.loop-place.invariant.room;
@@ -35,7 +38,8 @@ loop-place-preserved c =
 pub returns-clause-fault : goal.returns-clause-fault
 returns-clause-fault c =
     let words = words_of c.args.code.now in
-    word_fault-none c.args.level words (λ k h. c.loop-place.invariant.inside k (omega (arith, length-words_of c.args.code.now)))
+    word_fault-none c.args.level words
+    (λ k h. c.loop-place.invariant.inside k (omega (arith, length-words_of c.args.code.now)))
 
 pub returns-clause-insns : goal.returns-clause-insns
 returns-clause-insns c =

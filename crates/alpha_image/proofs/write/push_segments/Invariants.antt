@@ -4,4 +4,5 @@ use Rattle.alpha_image.specs.Layout.{segment_numbers}
 use Rattle.alpha_image.proofs.write.push_segments.Given as goal
 
 abbrev pub invariant-loop-segment : goal.invariant-loop-segment
-invariant-loop-segment l = l.out.items ≡ l.initial.out.items ++ flat_map segment_numbers (take l.segment-index l.segments)
+invariant-loop-segment l =
+    l.out.items ≡ l.initial.out.items ++ flat_map segment_numbers (take l.segment-index l.segments)

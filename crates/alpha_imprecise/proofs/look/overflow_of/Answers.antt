@@ -1,7 +1,7 @@
 use Rattle.std.proofs.Common.{true, false, Some, ap, sym, ◌∙◌}
-use Rattle.alpha_seq.proofs.Executing.{class_here-insn}
+use Rattle.alpha_seq.proofs.ExecutedInsns.{class_here-insn}
 use Rattle.alpha_imprecise.specs.Step.{destination}
-use Rattle.alpha_imprecise.proofs.Looking.{triggers-here}
+use Rattle.alpha_imprecise.proofs.NextInsns.{triggers-here}
 use Rattle.alpha_imprecise.proofs.look.overflow_of.Goals as goal
 
 pub returns-in_err-rc-clause-none : goal.returns-in_err-rc-clause-none

@@ -1,6 +1,6 @@
 use Rattle.std.proofs.Common.{◌≡◌, ◌<◌, ◌^◌, length, rules}
 use Rattle.alpha_trap.specs.Handler.{going_on}
-use Rattle.alpha_imprecise.proofs.Reporting.{handled-reported, scan-lost, lost-entry}
+use Rattle.alpha_imprecise.proofs.Reports.{handled-reported, scan-lost, lost-entry}
 use Rattle.alpha_imprecise.proofs.report.handled.Goals as goal
 
 pub returns-in-Ok-clause-ok : goal.returns-in-Ok-clause-ok
@@ -8,7 +8,8 @@ returns-in-Ok-clause-ok c =
     let m = c.args.machine.now in
     let sized : length m.regs ≡ 32 = c.get-zero.ensures.file.size in
     let small : c.args.mask < 2 ^ 31 = search rules in
-    handled-reported m.image m.how m.pc c.args.mask m.regs c.enter_arith.new.regs c.enter_arith.new.self (going_on c.in-Ok.pc c.handle.new.regs)
+    handled-reported m.image m.completion m.pc c.args.mask m.regs c.enter_arith.new.regs c.enter_arith.new.self
+    (going_on c.in-Ok.pc c.handle.new.regs)
     sized small c.enter_arith.ensures.state c.enter_arith.ensures.regs c.in-Ok.ensures.ok
 
 pub returns-in-Err-clause-refused : goal.returns-in-Err-clause-refused

@@ -6,9 +6,9 @@ use Rattle.alpha_seq.specs.declared.machine.Machine.{Machine}
 use Rattle.alpha_trap.specs.Handler.{going_on}
 use Rattle.alpha_imprecise.specs.declared.pending.Pending.{Pending}
 use Rattle.alpha_imprecise.specs.Chosen.{reporting}
-use Rattle.alpha_imprecise.specs.Wild.{wild_state}
-use Rattle.alpha_imprecise.specs.WildEffect.{StepsAs}
-use Rattle.alpha_imprecise.proofs.Reporting.{goes_far, landed-handled, landed-kernel, lost-handled, scanned}
+use Rattle.alpha_imprecise.specs.ImpreciseState.{imprecise_state}
+use Rattle.alpha_imprecise.specs.ImpreciseStepEffect.{StepsAs}
+use Rattle.alpha_imprecise.proofs.Reports.{goes_far, landed-handled, landed-kernel, lost-handled, reported-Scanned}
 use Rattle.alpha_imprecise.proofs.report.report.Goals as goal
 
 pub land-requires : goal.land-requires
@@ -16,13 +16,16 @@ land-requires c = λ going.
     let m = c.args.machine.now in
     let mask = c.args.trap.now.mask in
     let h = going_on c.in-Ok.pc c.handled.new.machine.regs in
-    goes_far m.image m.how m.pc mask m.regs h (scanned m.image m.how m.pc mask m.regs h c.in-Ok.ensures.ok)
-    (ap (λ (x : Machine). stops x.how) (sym c.in-Ok.ensures.frame) ∙ going)
+    goes_far m.image m.completion m.pc mask m.regs h
+    (reported-Scanned m.image m.completion m.pc mask m.regs h c.in-Ok.ensures.ok)
+    (ap (λ (x : Machine). stops x.completion) (sym c.in-Ok.ensures.frame) ∙ going)
 
 pub returns-in-Ok-clause-step : goal.returns-in-Ok-clause-step
 returns-in-Ok-clause-step c =
     let m = c.args.machine.now in
-    subst (λ (p : Option Pending). StepsAs c.land.result (wild_state m p) (wild_state c.land.new.machine None) (reporting 0).choice) (sym c.requires.trap)
+    subst (λ (p : Option Pending).
+    StepsAs c.land.result (imprecise_state m p) (imprecise_state c.land.new.machine None) (reporting 0).choice)
+    (sym c.requires.trap)
     (landed-handled m c.handled.new.machine c.land.new.machine c.args.trap.now c.in-Ok.pc c.land.result
     c.in-Ok.ensures.ok c.in-Ok.ensures.frame c.land.ensures.answer c.land.ensures.state)
 
@@ -30,7 +33,7 @@ pub returns-in-Ok-clause-user : goal.returns-in-Ok-clause-user
 returns-in-Ok-clause-user c =
     let mid = c.handled.new.machine in
     let kernel = ap (λ (x : Machine). x.kernel) c.land.ensures.state
-    ∙ (landed-kernel (stops mid.how) mid c.in-Ok.pc ∙ ap (λ (x : Machine). x.kernel) c.in-Ok.ensures.frame) in
+    ∙ (landed-kernel (stops mid.completion) mid c.in-Ok.pc ∙ ap (λ (x : Machine). x.kernel) c.in-Ok.ensures.frame) in
     subst (λ (k : KernelState). IsTrue k.user) (sym kernel) refl
 
 pub returns-in-Err-clause-step : goal.returns-in-Err-clause-step
@@ -38,5 +41,7 @@ returns-in-Err-clause-step c =
     let m = c.args.machine.now in
     let new = c.handled.new.machine in
     let lost = c.in-Err.lost in
-    subst (λ (p : Option Pending). StepsAs (events.Lost lost.trap_pc lost.mask) (wild_state m p) (wild_state new p) (reporting 0).choice) (sym c.requires.trap)
+    subst (λ (p : Option Pending).
+    StepsAs (events.Lost lost.trap_pc lost.mask) (imprecise_state m p) (imprecise_state new p) (reporting 0).choice)
+    (sym c.requires.trap)
     (lost-handled m new c.args.trap.now lost c.in-Err.ensures.refused c.in-Err.ensures.lost c.in-Err.ensures.same)

@@ -1,14 +1,15 @@
-use Rattle.alpha_io.proofs.Counts.{Rose-next_count, Rose-later, Rose-earlier, Rose-not_calm, Calm-from_same, Calm-first, Calm-second, Calm-trans}
+use Rattle.alpha_io.proofs.Counts.{Faulted-next_count, Faulted-later, Faulted-earlier, Faulted-not_NoFault}
+use Rattle.alpha_io.proofs.Counts.{NoFault-from_same, NoFault-first, NoFault-second, NoFault-trans}
 use Rattle.alpha_io.proofs.laws.laws_of_counts.Goals as goal
 
 pub returns : goal.returns
 returns c = record {
-  next = Rose-next_count;
-  later = Rose-later;
-  earlier = Rose-earlier;
-  apart = Rose-not_calm;
-  one_of_two = Calm-from_same;
-  first = Calm-first;
-  second = Calm-second;
-  both = Calm-trans;
+  next = Faulted-next_count;
+  later = Faulted-later;
+  earlier = Faulted-earlier;
+  apart = Faulted-not_NoFault;
+  one_of_two = NoFault-from_same;
+  first = NoFault-first;
+  second = NoFault-second;
+  both = NoFault-trans;
 }

@@ -1,5 +1,6 @@
 use Rattle.std.proofs.Common.{◌≡◌}
-use Rattle.alpha_io.proofs.Shelved.{KeepsFiles-refl, KeepsFiles-trans, KeepsFiles-sym, KeepsOtherFiles-kept, IfTold-kept, Lacks-kept, Lacks-not_told}
+use Rattle.alpha_io.proofs.ShelfLaws.{KeepsFiles-refl, KeepsFiles-trans, KeepsFiles-sym, KeepsOtherFiles-kept}
+use Rattle.alpha_io.proofs.ShelfLaws.{IfTold-kept, Lacks-kept, Lacks-not_told}
 use Rattle.alpha_io.proofs.laws.laws_of_files.Goals as goal
 
 pub returns : goal.returns

@@ -1,23 +1,28 @@
 use Rattle.std.proofs.Common.{ℕ, refl, length, ◌∙◌, arith, length-take}
 use Rattle.alpha_io.specs.Files.{IsPiece}
-use Rattle.alpha_io.proofs.Shelved.{KeepsFiles-trans, IfTold-kept}
+use Rattle.alpha_io.proofs.ShelfLaws.{KeepsFiles-trans, IfTold-kept}
 use Rattle.alpha_io.proofs.Pieces.{IsReadTo-more, some_bytes, unended_file}
-use Rattle.alpha_io.proofs.Fronts.{IsFront-more}
+use Rattle.alpha_io.proofs.FilePrefixes.{IsKnownPrefixRead-more}
 use Rattle.alpha_io.proofs.read.read_whole.Goals as goal
 
 pub loop-buffer-preserved : goal.loop-buffer-preserved
 loop-buffer-preserved g c =
     let s = c.loop-buffer.invariant in
     let now = c.in_ok-count.ensures in
-    let piece = IfTold-kept _ _ c.args.name.now (λ file. IsPiece file (length c.loop-buffer.bytes.items) c.in_ok-count.count c.append_piece.new.buffer) s.files now.piece in
-    let front = IsFront-more (g.H.Shelf.files c.args.shelf.now) c.args.name.now c.loop-buffer.bytes.items (length c.loop-buffer.bytes.items) c.in_ok-count.count c.append_piece.new.buffer refl now.bound.1 s.front piece in
+    let piece = IfTold-kept _ _ c.args.name.now
+    (λ file. IsPiece file (length c.loop-buffer.bytes.items) c.in_ok-count.count c.append_piece.new.buffer) s.files
+    now.piece in
+    let front = IsKnownPrefixRead-more (g.H.Shelf.files c.args.shelf.now) c.args.name.now c.loop-buffer.bytes.items
+    (length c.loop-buffer.bytes.items) c.in_ok-count.count c.append_piece.new.buffer refl now.bound.1 s.front piece in
     record {
-      so = IsReadTo-more _ _ _ _ _ _ _ s.so (some_bytes c.in_ok-count.count _ now.bound.1 c.if-count-eq0.false) now.replies now.items;
+      so =
+          IsReadTo-more _ _ _ _ _ _ _ s.so
+          (some_bytes c.in_ok-count.count _ now.bound.1 c.if-count-eq0.false) now.replies now.items;
       front = rw now.items front;
       room = omega (arith, now.len, length-take {A = ℕ});
       files = KeepsFiles-trans _ _ _ s.files now.files;
       takes = now.takes ∙ s.takes;
-      calm = now.cause ∙ s.calm;
+      faults_unchanged = now.cause ∙ s.faults_unchanged;
     }
 
 pub returns-clause-whole : goal.returns-clause-whole

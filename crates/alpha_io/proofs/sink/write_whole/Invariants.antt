@@ -1,11 +1,11 @@
 use Rattle.std.proofs.Common.{length, ◌≡◌}
-use Rattle.alpha_io.proofs.Writes.{WritesFront}
+use Rattle.alpha_io.proofs.Writes.{HasWrittenPrefix}
 use Rattle.alpha_io.proofs.sink.write_whole.Given as goal
 
 abbrev pub invariant-loop-rest : goal.invariant-loop-rest
 invariant-loop-rest g l = record {
-  front : WritesFront (g.K.Sink.written l.initial.out) (g.K.Sink.written l.out) l.bytes l.rest;
-  calm : g.K.Sink.faults l.out ≡ g.K.Sink.faults l.initial.out;
+  front : HasWrittenPrefix (g.K.Sink.written l.initial.out) (g.K.Sink.written l.out) l.bytes l.rest;
+  faults_unchanged : g.K.Sink.faults l.out ≡ g.K.Sink.faults l.initial.out;
 }
 
 abbrev pub decreases-loop-rest : goal.decreases-loop-rest

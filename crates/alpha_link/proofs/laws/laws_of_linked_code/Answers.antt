@@ -1,5 +1,5 @@
-use Rattle.alpha_link.proofs.Imaged.{linked_image}
-use Rattle.alpha_link.proofs.Linked.{linked_accepted}
+use Rattle.alpha_link.proofs.LinkedImages.{linked_image}
+use Rattle.alpha_link.proofs.LinkedCode.{linked_accepted}
 use Rattle.alpha_link.proofs.laws.laws_of_linked_code.Goals as goal
 
 pub returns : goal.returns

@@ -6,7 +6,7 @@ use Rattle.alpha_link.specs.declared.relocation.Relocation.{Relocation}
 use Rattle.alpha_link.specs.Relocations.{relocation_at, body}
 use Rattle.alpha_link.specs.Reading.{items_at}
 use Rattle.alpha_link.proofs.Results.{passed_on}
-use Rattle.alpha_link.proofs.Formats.{goes_on, stops, ends}
+use Rattle.alpha_link.proofs.Formats.{format-continues, items_at-stops, items_at-ends}
 use Rattle.alpha_link.proofs.relocations.read_relocations.Goals as goal
 
 pub loop-number-init : goal.loop-number-init
@@ -18,7 +18,9 @@ loop-number-init c =
     let all : n - 0 ≡ n = omega arith in
     record {
       size = ap length none;
-      reads = ap (λ (l : List Relocation). items_at read (n - 0) l bytes) none ∙ ap (λ (k : ℕ). items_at read k [] bytes) all;
+      reads =
+          ap (λ (l : List Relocation). items_at read (n - 0) l bytes) none
+          ∙ ap (λ (k : ℕ). items_at read k [] bytes) all;
     }
 
 pub loop-number-preserved : goal.loop-number-preserved
@@ -30,10 +32,13 @@ loop-number-preserved c =
     let x = c.in_ok-relocation.relocation in
     let pushed = c.in_ok-push.ensures.items in
     let at = rw c.deref.ensures.value at c.in_ok-relocation.ensures.value in
-    let step = goes_on read n l._number before l.rest.now (x) c.in_ok-relocation.behind.now (items_at read n [] c.args.bytes.now) c.loop-number-test.true l.invariant.reads at in
+    let step = format-continues read n l._number before l.rest.now (x) c.in_ok-relocation.behind.now
+    (items_at read n [] c.args.bytes.now) c.loop-number-test.true l.invariant.reads at in
     record {
       size = omega (arith, ap length pushed, length-append before (x ∷ []), l.invariant.size);
-      reads = ap (λ (t : List Relocation). items_at read (n - (l._number + 1)) t c.in_ok-relocation.behind.now) pushed ∙ step;
+      reads =
+          ap (λ (t : List Relocation). items_at read (n - (l._number + 1)) t c.in_ok-relocation.behind.now) pushed
+          ∙ step;
     }
 
 pub returns : goal.returns
@@ -41,7 +46,8 @@ returns c =
     let read = relocation_at c.args.total c.args.sizes.now (body (map encoded c.args.insns.now) c.args.filled.now) in
     let n = c.args.sizes.now.relocations in
     let l = c.loop-number in
-    ends read n l._number l.relocations.items l.rest.now (items_at read n [] c.args.bytes.now) c.loop-number-test.false l.invariant.reads
+    items_at-ends read n l._number l.relocations.items l.rest.now
+    (items_at read n [] c.args.bytes.now) c.loop-number-test.false l.invariant.reads
 
 pub returns-in_err-relocation : goal.returns-in_err-relocation
 returns-in_err-relocation c =
@@ -52,4 +58,7 @@ returns-in_err-relocation c =
     let whole = items_at read n [] c.args.bytes.now in
     let p = err_from_is_err_and c.from_residual-in_err-relocation.result c.from_residual-in_err-relocation.ensures.1 in
     let refused = rw c.deref.ensures.value at c.in_err-relocation.ensures.value in
-    rw (p.1, p.2) (passed_on c.in_err-relocation.field-0.0 (read before l.rest.now) whole (λ d r. stops read n l._number before l.rest.now whole c.loop-number-test.true l.invariant.reads d r) refused)
+    rw (p.1, p.2)
+    (passed_on c.in_err-relocation.field-0.0 (read before l.rest.now) whole
+    (λ d r. items_at-stops read n l._number before l.rest.now whole c.loop-number-test.true l.invariant.reads d r)
+    refused)

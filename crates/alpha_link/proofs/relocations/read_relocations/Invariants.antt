@@ -7,6 +7,7 @@ use Rattle.alpha_link.proofs.relocations.read_relocations.Given as goal
 abbrev pub invariant-loop-number : goal.invariant-loop-number
 invariant-loop-number l = record {
   size : length l.relocations.items ≡ l._number;
-  reads : items_at (relocation_at l.total l.sizes (body (map encoded l.insns) l.filled)) (l.sizes.relocations - l._number) l.relocations.items l.rest
+  reads : items_at (relocation_at l.total l.sizes (body (map encoded l.insns) l.filled))
+      (l.sizes.relocations - l._number) l.relocations.items l.rest
       ≡ items_at (relocation_at l.total l.sizes (body (map encoded l.insns) l.filled)) l.sizes.relocations [] l.bytes;
 }

@@ -13,4 +13,5 @@ loop-number-preserved c =
     let rest = flat_map symbol_bytes (drop (i + 1) xs) in
     ap (λ (o : List ℕ). o ++ rest) c.in_ok-push_symbol.ensures.ok
     ∙ (append_assoc before (symbol_bytes s) rest
-    ∙ (ap (λ (ys : List Named). before ++ flat_map symbol_bytes ys) (sym (next_get xs i s c.at.ensures)) ∙ c.loop-number.invariant))
+    ∙ (ap (λ (ys : List Named). before ++ flat_map symbol_bytes ys) (sym (next_get xs i s c.at.ensures))
+    ∙ c.loop-number.invariant))

@@ -1,4 +1,5 @@
-use Rattle.alpha_mem.proofs.LawLemmas.{shapes-write_bytes, IsMemory-write_bytes, byte_at-write_bytes_outside, byte_at-write_bytes_inside, write_bytes-write_bytes, bytes_at-write_bytes}
+use Rattle.alpha_mem.proofs.LawLemmas.{shapes-write_bytes, IsMemory-write_bytes, byte_at-write_bytes_outside}
+use Rattle.alpha_mem.proofs.LawLemmas.{byte_at-write_bytes_inside, write_bytes-write_bytes, bytes_at-write_bytes}
 use Rattle.alpha_mem.proofs.laws.laws_of_writes.Goals as goal
 
 pub returns-clause-shapes : goal.returns-clause-shapes

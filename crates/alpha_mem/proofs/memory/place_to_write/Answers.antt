@@ -9,10 +9,12 @@ returns-in_err-i c =
 
 pub returns-then-writable : goal.returns-then-writable
 returns-then-writable c =
-    writable_found c.args.regions.now c.args.addr c.args.len c.in_ok-i.i c.index-regions-i.result c.requires.layout c.requires.some c.in_ok-i.ensures
+    writable_found c.args.regions.now c.args.addr c.args.len c.in_ok-i.i c.index-regions-i.result c.requires.layout
+    c.requires.some c.in_ok-i.ensures
     (ap (λ (b : Block). b.writable) (sym c.index-regions-i.is) ∙ (sym c.writable.ensures ∙ c.if-writable.true))
 
 pub returns-else-writable : goal.returns-else-writable
 returns-else-writable c =
-    writable_refused c.args.regions.now c.args.addr c.args.len c.in_ok-i.i c.index-regions-i.result c.requires.layout c.requires.some c.in_ok-i.ensures
+    writable_refused c.args.regions.now c.args.addr c.args.len c.in_ok-i.i c.index-regions-i.result c.requires.layout
+    c.requires.some c.in_ok-i.ensures
     (ap (λ (b : Block). b.writable) (sym c.index-regions-i.is) ∙ (sym c.writable.ensures ∙ c.if-writable.false))

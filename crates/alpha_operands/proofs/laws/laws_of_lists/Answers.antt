@@ -1,7 +1,7 @@
 use Rattle.alpha_operands.specs.Shapes.{patterns}
 use Rattle.alpha_operands.proofs.Lists.{values-read, values-none, one-list}
 use Rattle.alpha_operands.proofs.Sizes.{next-sized}
-use Rattle.alpha_operands.proofs.Quotes.{text-read}
+use Rattle.alpha_operands.proofs.Quotes.{operand_text-read}
 use Rattle.alpha_operands.proofs.laws.laws_of_lists.Goals as goal
 
 pub returns-clause-end : goal.returns-clause-end
@@ -11,7 +11,7 @@ pub returns-clause-values : goal.returns-clause-values
 returns-clause-values c = values-read
 
 pub returns-clause-text : goal.returns-clause-text
-returns-clause-text c = λ shape. text-read (patterns shape)
+returns-clause-text c = λ shape. operand_text-read (patterns shape)
 
 pub returns-clause-one : goal.returns-clause-one
 returns-clause-one c = one-list

@@ -12,11 +12,18 @@ use Rattle.alpha_operands.proofs.laws.laws_of_operands.Goals as goal
 
 pub returns-clause-grammar : goal.returns-clause-grammar
 unfolding operands
-returns-clause-grammar c = λ s line o. (λ h. follow-spells (patterns s) [] signs.Plus (tokens line) nothing o h, λ (q, k, g). spells-follow (patterns s) (shapes-distinct s) [] q signs.Plus (tokens line) nothing o k g)
+returns-clause-grammar c = λ s line o. (
+  λ h. follow-spells (patterns s) [] signs.Plus (tokens line) nothing o h,
+  λ (q, k, g). spells-follow (patterns s) (shapes-distinct s) [] q signs.Plus (tokens line) nothing o k g,
+)
 
 pub returns-clause-fault : goal.returns-clause-fault
 unfolding operands
-returns-clause-fault c = λ s line f h. (follow-has (patterns s) (shapes-distinct s) [] signs.Plus (tokens line) nothing f h, λ g k. follow-first (length line) (patterns s) (shapes-distinct s) [] signs.Plus (tokens line) nothing f g (tokens-fall line) h k)
+returns-clause-fault c = λ s line f h. (
+  follow-has (patterns s) (shapes-distinct s) [] signs.Plus (tokens line) nothing f h,
+  λ g k. follow-first (length line) (patterns s) (shapes-distinct s) [] signs.Plus (tokens line) nothing f g
+      (tokens-fall line) h k,
+)
 
 pub returns-clause-faultless : goal.returns-clause-faultless
 returns-clause-faultless c = λ s line o f h. operands-clean (patterns s) (shapes-distinct s) (tokens line) o f h

@@ -5,7 +5,8 @@ use Rattle.alpha_operands.proofs.names.register_number.Goals as goal
 
 pub returns-in-Some : goal.returns-in-Some
 unfolding registers
-returns-in-Some c = sym (first_of registers registers c.args.name.now c.in-Some.number registers-first c.in-Some.ensures)
+returns-in-Some c =
+    sym (first_of registers registers c.args.name.now c.in-Some.number registers-first c.in-Some.ensures)
 
 pub returns-in-None : goal.returns-in-None
 unfolding registers

@@ -12,6 +12,9 @@ pub returns : goal.returns
 returns c = λ list has.
     let sign = c.args.sign in
     let n = number_value c.args.token.now.text.now in
-    let read : number_of c.in_ok-piece.piece sign n ≡ Some (numbers.Value c.in-Some-Value.n) = sym (rw c.in-Some-Value.field-0-is at c.in-Some-Value.ensures) in
-    let is : number_in c.args.shape sign n ≡ Some (numbers.Value c.in-Some-Value.n) = ap (option_and_then (λ (p : Piece). number_of p sign n)) (sym c.in_ok-piece.ensures) ∙ read in
-    first-number c.args.shape sign (lexeme c.args.token.now) c.in-Some-Value.n list c.in_ok-rest.rest.now has is c.in_ok-rest.ensures
+    let read : number_of c.in_ok-piece.piece sign n ≡ Some (numbers.Value c.in-Some-Value.n) =
+    sym (rw c.in-Some-Value.field-0-is at c.in-Some-Value.ensures) in
+    let is : number_in c.args.shape sign n ≡ Some (numbers.Value c.in-Some-Value.n) =
+    ap (option_and_then (λ (p : Piece). number_of p sign n)) (sym c.in_ok-piece.ensures) ∙ read in
+    first-number c.args.shape sign
+    (lexeme c.args.token.now) c.in-Some-Value.n list c.in_ok-rest.rest.now has is c.in_ok-rest.ensures

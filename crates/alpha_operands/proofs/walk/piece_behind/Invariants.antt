@@ -4,4 +4,6 @@ use Rattle.alpha_operands.proofs.walk.piece_behind.Given as goal
 
 -- the patterns that are left decide
 abbrev pub invariant-loop-pattern : goal.invariant-loop-pattern
-invariant-loop-pattern l = piece_behind (map (λ p. p.now) (drop l.pattern-index l.patterns)) l.front l.kind ≡ piece_behind (map (λ p. p.now) l.patterns) l.front l.kind
+invariant-loop-pattern l =
+    piece_behind (map (λ p. p.now) (drop l.pattern-index l.patterns)) l.front l.kind
+    ≡ piece_behind (map (λ p. p.now) l.patterns) l.front l.kind

@@ -1,5 +1,5 @@
 use Rattle.alpha_pal.proofs.LawLemmas.{shapes-call, length-call}
-use Rattle.alpha_pal.proofs.Asking.{GoesOnTold-from}
+use Rattle.alpha_pal.proofs.InputRequests.{CallReturnsTold-from}
 use Rattle.alpha_pal.proofs.Callsys.{callsys-does}
 use Rattle.alpha_pal.proofs.laws.laws_of_calls.Goals as goal
 
@@ -13,4 +13,4 @@ pub returns-clause-served : goal.returns-clause-served
 returns-clause-served c = callsys-does
 
 pub returns-clause-told : goal.returns-clause-told
-returns-clause-told c = GoesOnTold-from
+returns-clause-told c = CallReturnsTold-from

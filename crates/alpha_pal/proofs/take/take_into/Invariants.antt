@@ -11,7 +11,7 @@ invariant-loop-done g l = record {
   shapes : shapes l.mem ≡ shapes l.initial.mem;
   room : l.done ≤ l.size;
   memory : IsMemory l.mem;
-  calm : g.S.Source.faults l.input ≡ g.S.Source.faults l.initial.input;
+  faults_unchanged : g.S.Source.faults l.input ≡ g.S.Source.faults l.initial.input;
 }
 
 abbrev pub decreases-loop-done : goal.decreases-loop-done

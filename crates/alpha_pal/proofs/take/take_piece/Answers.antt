@@ -6,7 +6,9 @@ use Rattle.alpha_pal.proofs.take.take_piece.Goals as goal
 
 pub write-requires : goal.write-requires
 write-requires g c =
-    within-part (shapes c.args.mem.now) Store c.args.addr (length c.args.piece.now) c.args.addr (length (take c.in_ok-count.count c.take.new.buf)) c.requires.range (omega arith) (omega (arith, length-take {A = ℕ}, c.in_ok-count.ensures.bound))
+    within-part (shapes c.args.mem.now) Store c.args.addr (length c.args.piece.now) c.args.addr
+    (length (take c.in_ok-count.count c.take.new.buf)) c.requires.range (omega arith)
+    (omega (arith, length-take {A = ℕ}, c.in_ok-count.ensures.bound))
 
 pub returns-clause-ok : goal.returns-clause-ok
 returns-clause-ok g c = record {

@@ -1,4 +1,4 @@
-use Rattle.alpha_replay.proofs.Parsing.{Reading}
+use Rattle.alpha_replay.proofs.ItemRows.{Reading}
 use Rattle.alpha_replay.proofs.items.read_items.Given as goal
 
 abbrev pub invariant-loop-n : goal.invariant-loop-n

@@ -1,19 +1,21 @@
-use Rattle.alpha_replay.proofs.JournaledRuns.{one_place, journaled_run}
-use Rattle.alpha_replay.proofs.Stopping.{some_place, few_words}
-use Rattle.alpha_replay.proofs.Feeding.{list_feeds}
+use Rattle.alpha_replay.proofs.JournaledRuns.{IsJournaled-single, journaled_run}
+use Rattle.alpha_replay.proofs.JournalBounds.{some_place, few_words}
+use Rattle.alpha_replay.proofs.InputPrefixes.{list_feeds}
 use Rattle.alpha_replay.proofs.JournaledReplays.{journaled_lists, journaled_replays}
-use Rattle.alpha_replay.proofs.Told.{stops_told}
+use Rattle.alpha_replay.proofs.JournalTold.{stops_told}
 use Rattle.alpha_replay.proofs.laws.laws_of_journaled_runs.Goals as goal
 
 pub returns : goal.returns
 returns c = record {
   some = some_place;
   few = few_words;
-  one = λ n g from k l. one_place n g from k l;
+  one = λ n g from k l. IsJournaled-single n g from k l;
   runs = λ n g from k. journaled_run n g from k;
   listed = journaled_lists;
   taken = λ n g items p q front rest. list_feeds g n items p q front rest;
   replayed = λ n image how input words k is within.
-      journaled_replays n image how input words k is within (journaled_lists n (record { image = image; how = how }) input words k is);
-  told = λ n last old new before after input out sink s bytes coming tells. stops_told n last old new before after input out sink s bytes coming tells;
+      journaled_replays n image how input words k is within
+      (journaled_lists n (record { image = image; completion = how }) input words k is);
+  told = λ n last old new before after input out sink s bytes coming tells.
+      stops_told n last old new before after input out sink s bytes coming tells;
 }

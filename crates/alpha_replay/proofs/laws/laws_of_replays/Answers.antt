@@ -1,4 +1,4 @@
-use Rattle.alpha_replay.proofs.Listing.{listed_is, listed_units, replayed_is, restarted_is}
+use Rattle.alpha_replay.proofs.ItemEffects.{listed_is, listed_units, replayed_is, restarted_is}
 use Rattle.alpha_replay.proofs.laws.laws_of_replays.Goals as goal
 
 pub returns-clause-listed : goal.returns-clause-listed

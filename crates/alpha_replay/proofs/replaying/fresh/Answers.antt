@@ -6,6 +6,7 @@ use Rattle.alpha_replay.proofs.replaying.fresh.Goals as goal
 
 pub returns-in-Ok-clause-fresh : goal.returns-in-Ok-clause-fresh
 returns-in-Ok-clause-fresh c = record {
-  calm = c.new-wild.ensures.pending;
-  start = subst (λ (m : Machine). state_of m ≡ start (program_of m)) (sym c.new-wild.ensures.machine) c.in-Ok.ensures.start;
+  nothing_pending = c.new-wild.ensures.pending;
+  start =
+      subst (λ (m : Machine). state_of m ≡ start (program_of m)) (sym c.new-wild.ensures.machine) c.in-Ok.ensures.start;
 }

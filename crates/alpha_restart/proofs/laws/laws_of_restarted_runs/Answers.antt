@@ -1,5 +1,5 @@
 use Rattle.alpha_restart.proofs.Walks.{walks_agree}
-use Rattle.alpha_imprecise.proofs.Showing.{choices_alike, runs_alike}
+use Rattle.alpha_imprecise.proofs.ShownRuns.{choices_alike, runs_alike}
 use Rattle.alpha_restart.proofs.laws.laws_of_restarted_runs.Goals as goal
 
 pub returns : goal.returns

@@ -10,7 +10,9 @@ returns-clause-part c fault n rest watch w new before after input out notes byte
     by_words_part fault n watch w new before after input out notes bytes ahead cut tells told fresh
 
 pub returns-clause-few : goal.returns-clause-few
-returns-clause-few c last n left watch w new before after input out notes ran calm = draws_few last n left watch w new before after input out notes ran calm
+returns-clause-few c last n left watch w new before after input out notes ran calm =
+    draws_few last n left watch w new before after input out notes ran calm
 
 pub returns-clause-few_part : goal.returns-clause-few_part
-returns-clause-few_part c fault n rest watch w new before after input out notes cut calm = cut_draws_few fault n watch w new before after input out notes cut calm
+returns-clause-few_part c fault n rest watch w new before after input out notes cut calm =
+    cut_draws_few fault n watch w new before after input out notes cut calm

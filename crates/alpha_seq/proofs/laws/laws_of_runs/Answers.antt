@@ -1,4 +1,4 @@
-use Rattle.alpha_seq.proofs.Running.{after-over, after-steps}
+use Rattle.alpha_seq.proofs.RunsOverInput.{after-over, after-steps}
 use Rattle.alpha_seq.proofs.laws.laws_of_runs.Goals as goal
 
 pub returns-clause-over : goal.returns-clause-over

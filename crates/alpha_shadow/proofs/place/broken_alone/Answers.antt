@@ -1,6 +1,6 @@
 use Rattle.std.proofs.Common.{Some, ap, ◌∙◌, refl}
 use Rattle.alpha_shadow.proofs.Steps.{nothing_yet}
-use Rattle.alpha_shadow.proofs.Alone.{alone}
+use Rattle.alpha_shadow.proofs.Alone.{trigger-alone}
 use Rattle.alpha_shadow.proofs.place.broken_alone.Goals as goal
 
 pub returns : goal.returns
@@ -9,4 +9,4 @@ returns c = λ code none h.
     let kind = h.kind ∙ ap Some c.requires in
     let c1 = c.lesser-found.ensures code 0 refl (nothing_yet code at) (c.zero_destination.ensures code h) in
     let c2 = c.lesser.ensures code 1 refl c1 (c.lost_at_once.ensures code none h) in
-    alone code at c.lesser.result none kind h.within c2
+    trigger-alone code at c.lesser.result none kind h.within c2

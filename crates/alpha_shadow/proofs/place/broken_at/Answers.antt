@@ -25,6 +25,7 @@ returns c = λ code s u h.
       | in-Trigger w ↦ let q = w.in-Trigger.is in cc
       | in-Plain w ↦ let q = w.in-Plain.is in cc
       | in-Turn w ↦ let q = w.in-Turn.is in cc
-      | in-Load w ↦ ⊎_elim (λ (q : word.kind ≡ kinds.Load). cc) (⊎_elim (λ (q : word.kind ≡ kinds.Store). cc) (λ (q : word.kind ≡ kinds.Locked). cc)) w.in-Load.is
+      | in-Load w ↦ ⊎_elim (λ (q : word.kind ≡ kinds.Load). cc)
+          (⊎_elim (λ (q : word.kind ≡ kinds.Store). cc) (λ (q : word.kind ≡ kinds.Locked). cc)) w.in-Load.is
     ] in
     c.lesser.ensures code 8 refl before (c.long.ensures code s u h.within other)

@@ -1,8 +1,8 @@
 use Rattle.std.proofs.Common.{inl, inr, refl}
 use Rattle.alpha_shadow.specs.declared.broken.Condition.TheVariants.{WildBase, LoadThenStore, Locked, Turn}
 use Rattle.alpha_shadow.proofs.Tables.{no_access}
-use Rattle.alpha_shadow.proofs.Places.{wild_missing, no_store, locked_missing, turn_missing}
-use Rattle.alpha_shadow.proofs.Steps.{skip, open_next}
+use Rattle.alpha_shadow.proofs.Places.{WildBase-no_access, no_store, locked_missing, turn_missing}
+use Rattle.alpha_shadow.proofs.Steps.{IsLeastUpTo-skip, open_next}
 use Rattle.alpha_shadow.proofs.place.broken_by_register.Goals as goal
 
 pub returns : goal.returns
@@ -12,8 +12,9 @@ returns c = λ code s u h.
     let plain = c.requires in
     let access = no_access code at c.args.word.now.kind h.kind (inr (inl plain)) in
     let found = c.broken_by_set.result in
-    let c4 = skip code at 3 WildBase found refl (wild_missing code at access) (c.broken_by_set.ensures code s u h) in
-    let c5 = skip code at 4 LoadThenStore found refl (no_store code at (λ q. q.1 access)) c4 in
-    let c6 = skip code at 5 Locked found refl (locked_missing code at (λ t. cc)) c5 in
-    let c7 = skip code at 6 Turn found refl (turn_missing code at (λ t. cc)) c6 in
+    let c4 = IsLeastUpTo-skip code at 3 WildBase found refl (WildBase-no_access code at access)
+    (c.broken_by_set.ensures code s u h) in
+    let c5 = IsLeastUpTo-skip code at 4 LoadThenStore found refl (no_store code at (λ q. q.1 access)) c4 in
+    let c6 = IsLeastUpTo-skip code at 5 Locked found refl (locked_missing code at (λ t. cc)) c5 in
+    let c7 = IsLeastUpTo-skip code at 6 Turn found refl (turn_missing code at (λ t. cc)) c6 in
     open_next code at found h.within c7

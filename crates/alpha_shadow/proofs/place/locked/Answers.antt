@@ -6,4 +6,5 @@ use Rattle.alpha_shadow.proofs.place.locked.Goals as goal
 pub returns-then-eq : goal.returns-then-eq
 returns-then-eq c = λ code at s h.
     let kind : c.args.word.now.kind ≡ kinds.Locked = search rules in
-    locked_first code at (h.kind ∙ ap Some kind) c.first.result (window_first code c.args.window.now at s c.first.result c.first.ensures)
+    locked_first code at (h.kind ∙ ap Some kind) c.first.result
+    (window_first code c.args.window.now at s c.first.result c.first.ensures)

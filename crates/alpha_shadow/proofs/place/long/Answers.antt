@@ -9,13 +9,15 @@ use Rattle.alpha_shadow.proofs.place.long.Goals as goal
 pub returns-in_err-first : goal.returns-in_err-first
 returns-in_err-first c = λ code s u within other.
     subst (IsFirstBroken code c.args.at Long) (sym c.from_residual.ensures)
-    (none_long code c.args.at (inl (subst (IsFirstThat code c.args.at (λ p. Unit {0})) c.in_err-first.was (window_first code c.args.window.now c.args.at s c.first.result c.first.ensures))))
+    (none_long code c.args.at (inl (subst (IsFirstThat code c.args.at (λ p. Unit {0})) c.in_err-first.was
+    (window_first code c.args.window.now c.args.at s c.first.result c.first.ensures))))
 
 pub returns-then-from : goal.returns-then-from
 returns-then-from c = λ code s u within other.
     let at = c.args.at in
     let first = c.in_ok-first.first in
-    let f = subst (IsFirstThat code at (λ p. Unit {0})) c.in_ok-first.was (window_first code c.args.window.now at s c.first.result c.first.ensures) in
+    let f = subst (IsFirstThat code at (λ p. Unit {0})) c.in_ok-first.was
+    (window_first code c.args.window.now at s c.first.result c.first.ensures) in
     let past : first + 1025 ≤ at = omega arith in
     long_found code at first u within other f past
 
@@ -23,6 +25,7 @@ pub returns-else-from : goal.returns-else-from
 returns-else-from c = λ code s u within other.
     let at = c.args.at in
     let first = c.in_ok-first.first in
-    let f = subst (IsFirstThat code at (λ p. Unit {0})) c.in_ok-first.was (window_first code c.args.window.now at s c.first.result c.first.ensures) in
+    let f = subst (IsFirstThat code at (λ p. Unit {0})) c.in_ok-first.was
+    (window_first code c.args.window.now at s c.first.result c.first.ensures) in
     let less : at < first + 1025 = omega arith in
     long_missing code at first u within other f less

@@ -8,7 +8,8 @@ use Rattle.alpha_shadow.proofs.place.lost_at_once.Goals as goal
 
 pub returns-in_err-r : goal.returns-in_err-r
 returns-in_err-r c = λ code none h.
-    subst (IsFirstBroken code c.args.at SourceLost) (sym c.from_residual.ensures) (lost_nothing code c.args.at (h.sets ∙ c.in_err-r.was))
+    subst (IsFirstBroken code c.args.at SourceLost) (sym c.from_residual.ensures)
+    (lost_nothing code c.args.at (h.sets ∙ c.in_err-r.was))
 
 pub returns-then-has : goal.returns-then-has
 returns-then-has c = λ code none h.
@@ -21,4 +22,5 @@ pub returns-else-has : goal.returns-else-has
 returns-else-has c = λ code none h.
     let at = c.args.at in
     let r = c.in_ok-r.r in
-    alone_kept code at r none (h.sets ∙ c.in_ok-r.was) (λ u. let t = c.has.ensures.1 ((h.uses r).1 u) in let f = c.if-has.false in cc)
+    alone_kept code at r none (h.sets ∙ c.in_ok-r.was)
+    (λ u. let t = c.has.ensures.1 ((h.uses r).1 u) in let f = c.if-has.false in cc)

@@ -6,7 +6,8 @@ use Rattle.alpha_shadow.proofs.place.zero_destination.Goals as goal
 pub returns-then-eq : goal.returns-then-eq
 returns-then-eq c = λ code h.
     let zero : c.destination.result ≡ 31 = eqb-true c.destination.result 31 (sym c.eq.ensures ∙ c.if-eq.true) in
-    zero_found code c.args.at (h.kind ∙ ap Some c.requires) (ap (λ o. unwrap_or o 31) h.sets ∙ (sym c.destination.ensures ∙ zero))
+    zero_found code c.args.at (h.kind ∙ ap Some c.requires)
+    (ap (λ o. unwrap_or o 31) h.sets ∙ (sym c.destination.ensures ∙ zero))
 
 pub returns-else-eq : goal.returns-else-eq
 returns-else-eq c = λ code h.

@@ -1,4 +1,4 @@
-use Rattle.alpha_table.proofs.Decoding.{decoded_is}
+use Rattle.alpha_table.proofs.DecodedInsns.{decoded_is}
 use Rattle.alpha_table.proofs.Tables.{rows_suit}
 use Rattle.alpha_table.proofs.decoder.decode_inline.Goals as goal
 

@@ -1,6 +1,6 @@
 use Rattle.std.proofs.Common.{refl, sym, ◌∙◌, true≢false}
 use Rattle.std.proofs.lemmas.Bool.{eq-eqb, eqb-true}
-use Rattle.alpha_table.proofs.Decoding.{literal_source, register_source}
+use Rattle.alpha_table.proofs.DecodedInsns.{literal_source, register_source}
 use Rattle.alpha_table.proofs.decoder.has_source.Goals as goal
 
 pub returns-then-is_literal : goal.returns-then-is_literal

@@ -1,5 +1,5 @@
 use Rattle.std.proofs.Common.{arith}
-use Rattle.alpha_table.proofs.Decoding.{no_row}
+use Rattle.alpha_table.proofs.DecodedInsns.{no_row}
 use Rattle.alpha_table.proofs.decoder.other.Goals as goal
 
 pub returns-in_default-clause-none : goal.returns-in_default-clause-none

@@ -1,4 +1,4 @@
-use Rattle.alpha_table.proofs.Decoding.{other_stands}
+use Rattle.alpha_table.proofs.DecodedInsns.{other_stands}
 use Rattle.alpha_table.proofs.decoder.rare.Goals as goal
 
 pub returns-in-Some-clause-none : goal.returns-in-Some-clause-none

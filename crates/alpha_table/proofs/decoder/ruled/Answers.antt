@@ -1,5 +1,5 @@
 use Rattle.std.proofs.Common.{refl, sym, true≢false}
-use Rattle.alpha_table.proofs.Decoding.{refused_operate, operate_stands, same_fit}
+use Rattle.alpha_table.proofs.DecodedInsns.{refused_operate, operate_stands, same_fit}
 use Rattle.alpha_table.proofs.decoder.ruled.Goals as goal
 
 pub returns-then-not-has_source-clause-none : goal.returns-then-not-has_source-clause-none
@@ -14,4 +14,5 @@ returns-then-operands_fit-clause-found c =
 pub returns-else-operands_fit-clause-none : goal.returns-else-operands_fit-clause-none
 returns-else-operands_fit-clause-none c =
     refused_operate c.args.w.0 c.args.op c.requires
-    (λ p. true≢false (sym (c.if-operands_fit.ensures.1 (same_fit _ _ _ _ _ _ (sym c.operands.ensures) (sym c.ra.ensures) (sym c.source.ensures) p.1))))
+    (λ p. true≢false (sym (c.if-operands_fit.ensures.1 (same_fit _ _ _ _ _ _ (sym c.operands.ensures) (sym c.ra.ensures)
+    (sym c.source.ensures) p.1))))

@@ -1,4 +1,4 @@
-use Rattle.alpha_table.proofs.Naming.{same_row}
+use Rattle.alpha_table.proofs.NameSearches.{same_row}
 use Rattle.alpha_table.proofs.laws.laws_of_names.Goals as goal
 
 pub returns : goal.returns

@@ -1,4 +1,4 @@
-use Rattle.alpha_table.proofs.Decoding.{same_insn, same_word, decoded-Row, Row-decoded, IsInsn-Row}
+use Rattle.alpha_table.proofs.DecodedInsns.{same_insn, Row-one_word, decoded-Row, Row-decoded, IsInsn-Row}
 use Rattle.alpha_table.proofs.Words.{encoded-Row, some_word}
 use Rattle.alpha_table.proofs.laws.laws_of_the_table.Goals as goal
 
@@ -6,7 +6,7 @@ pub returns : goal.returns
 returns c = record {
   some_word = some_word;
   encoded = encoded-Row;
-  one_word = same_word;
+  one_word = Row-one_word;
   one_instruction = same_insn;
   within = IsInsn-Row;
   looked_up = λ w i. (decoded-Row w i, Row-decoded w i);

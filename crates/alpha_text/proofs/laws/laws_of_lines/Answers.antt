@@ -1,8 +1,8 @@
 use Rattle.alpha_token.specs.Tokens.{tokens}
 use Rattle.alpha_text.proofs.LineFaults.{read-fault, line-clean}
 use Rattle.alpha_text.proofs.Lines.{read-is}
-use Rattle.alpha_text.proofs.Returns.{read-returned}
-use Rattle.alpha_text.proofs.Round.{reads_back, different}
+use Rattle.alpha_text.proofs.Returns.{read-with_return}
+use Rattle.alpha_text.proofs.Round.{reads_back, canon-injective}
 use Rattle.alpha_text.proofs.laws.laws_of_lines.Goals as goal
 
 pub returns-clause-grammar : goal.returns-clause-grammar
@@ -18,7 +18,7 @@ pub returns-clause-reads_back : goal.returns-clause-reads_back
 returns-clause-reads_back c = reads_back
 
 pub returns-clause-returned : goal.returns-clause-returned
-returns-clause-returned c = read-returned
+returns-clause-returned c = read-with_return
 
 pub returns-clause-different : goal.returns-clause-different
-returns-clause-different c = different
+returns-clause-different c = canon-injective

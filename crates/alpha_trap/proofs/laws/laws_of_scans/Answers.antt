@@ -1,4 +1,4 @@
-use Rattle.alpha_trap.proofs.Scanning.{fits_Fits, Fits_fits, found-is, scan-is, scan-last}
+use Rattle.alpha_trap.proofs.ScanRelation.{fits_Fits, Fits_fits, found-is, scan-is, scan-last}
 use Rattle.alpha_trap.proofs.laws.laws_of_scans.Goals as goal
 
 pub returns-clause-fits : goal.returns-clause-fits

@@ -1,4 +1,4 @@
-use Rattle.alpha_trap.proofs.Walking.{Walked}
+use Rattle.alpha_trap.proofs.ScanSteps.{Walked}
 use Rattle.alpha_trap.proofs.scan.place_before.Given as goal
 
 abbrev pub invariant-loop-place : goal.invariant-loop-place

@@ -11,6 +11,7 @@ unfolding program_words
 returns c =
     let blocks = blocks_words c.args.n (seeded c.args.n) in
     c.in_ok-push_words.ensures
-    ∙ (ap (λ (l : List ℕ). l ++ flat_map longword c.ending.result) (c.in_ok-push_blocks.ensures ∙ ap (λ (l : List ℕ). l ++ flat_map longword blocks) c.in_ok-code.ensures.items)
-    ∙ (ap (λ (l : List ℕ). flat_map longword blocks ++ flat_map longword l) c.ending.ensures
+    ∙ (ap (λ (l : List ℕ). l ++ flat_map longword c.exit_block.result)
+    (c.in_ok-push_blocks.ensures ∙ ap (λ (l : List ℕ). l ++ flat_map longword blocks) c.in_ok-code.ensures.items)
+    ∙ (ap (λ (l : List ℕ). flat_map longword blocks ++ flat_map longword l) c.exit_block.ensures
     ∙ sym (flat_map-append longword blocks ending_words)))

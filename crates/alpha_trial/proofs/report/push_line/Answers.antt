@@ -6,8 +6,10 @@ use Rattle.alpha_trial.proofs.report.push_line.Goals as goal
 pub returns : goal.returns
 unfolding line
 returns c =
-    let code = codes " words " ++ decimal (length c.args.image.now.words) ++ codes " triggers " ++ decimal (count_by is_trigger c.args.image.now.words) in
-    let counts = codes " overflows " ++ decimal c.args.counts.overflows ++ codes " steps " ++ decimal c.args.counts.steps in
+    let code = codes " words " ++ decimal (length c.args.image.now.words) ++ codes " triggers "
+    ++ decimal (count_by is_trigger c.args.image.now.words) in
+    let counts =
+    codes " overflows " ++ decimal c.args.counts.overflows ++ codes " steps " ++ decimal c.args.counts.steps in
     let result = codes " result " ++ encode_lower c.args.output.now in
     let drawn = codes " drawn " ++ decimal c.args.counts.drawn in
     c.in_ok-extend_from_slice-2.ensures.items

@@ -10,7 +10,8 @@ loop-k-init c = (refl, omega arith)
 
 pub loop-k-preserved : goal.loop-k-preserved
 loop-k-preserved c =
-    zapped_from-more c.args.marks c.args.a c.loop-k.k c.loop-k.left c.byte_left.result (omega arith) (omega arith) c.loop-k.invariant.0 c.loop-k.invariant.1 c.byte_left.ensures.left c.byte_left.ensures.byte
+    zapped_from-more c.args.marks c.args.a c.loop-k.k c.loop-k.left c.byte_left.result (omega arith)
+    (omega arith) c.loop-k.invariant.0 c.loop-k.invariant.1 c.byte_left.ensures.left c.byte_left.ensures.byte
 
 pub returns : goal.returns
 returns c =

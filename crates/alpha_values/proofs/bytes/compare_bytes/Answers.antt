@@ -10,7 +10,8 @@ loop-k-init c = (refl, omega arith)
 
 pub loop-k-preserved : goal.loop-k-preserved
 loop-k-preserved c =
-    compared_from-more c.args.a c.args.b c.loop-k.k c.loop-k.answers c.at_least.result (omega arith) (omega arith) c.loop-k.invariant.0 c.loop-k.invariant.1 c.at_least.ensures.answer c.at_least.ensures.bit
+    compared_from-more c.args.a c.args.b c.loop-k.k c.loop-k.answers c.at_least.result (omega arith)
+    (omega arith) c.loop-k.invariant.0 c.loop-k.invariant.1 c.at_least.ensures.answer c.at_least.ensures.bit
 
 pub returns : goal.returns
 returns c =

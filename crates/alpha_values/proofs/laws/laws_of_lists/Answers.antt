@@ -1,5 +1,6 @@
 use Rattle.alpha_values.proofs.BitLemmas.{bit_and_is, bit_or_is, bit_xor_is, bit_not_is}
-use Rattle.alpha_values.proofs.ByteLemmas.{extracted_low_is, extracted_high_is, inserted_low_is, inserted_high_is, masked_low_is, masked_high_is, zapped_is, zapped_not_is}
+use Rattle.alpha_values.proofs.ByteLemmas.{extracted_low_is, extracted_high_is, inserted_low_is, inserted_high_is}
+use Rattle.alpha_values.proofs.ByteLemmas.{masked_low_is, masked_high_is, zapped_is, zapped_not_is}
 use Rattle.alpha_values.proofs.ListLemmas.{result_on_lists}
 use Rattle.alpha_values.proofs.laws.laws_of_lists.Goals as goal
 

@@ -10,11 +10,13 @@ use Rattle.alpha_values.proofs.trap.overflows.Goals as goal
 pub returns-in-SublV : goal.returns-in-SublV
 unfolding overflow_of
 returns-in-SublV c =
-    let outside : FalseIff c.overflowing_sub.result.1 (FitsSigned w32 (exact SublV c.args.a c.args.b)) = grind (arith, to_z-of_z) in
+    let outside : FalseIff c.overflowing_sub.result.1 (FitsSigned w32 (exact SublV c.args.a c.args.b)) =
+    grind (arith, to_z-of_z) in
     rw c.in-SublV.is (overflow_is _ w32 (exact SublV c.args.a c.args.b) outside)
 
 pub returns-in-SubqV : goal.returns-in-SubqV
 unfolding overflow_of
 returns-in-SubqV c =
-    let outside : FalseIff c.overflowing_sub-in-SubqV.result.1 (FitsSigned w64 (exact SubqV c.args.a c.args.b)) = grind (arith, to_z-of_z) in
+    let outside : FalseIff c.overflowing_sub-in-SubqV.result.1 (FitsSigned w64 (exact SubqV c.args.a c.args.b)) =
+    grind (arith, to_z-of_z) in
     rw c.in-SubqV.is (overflow_is _ w64 (exact SubqV c.args.a c.args.b) outside)

@@ -1,6 +1,6 @@
 use Rattle.std.proofs.Common.{◌≤◌, length, sym, ap, ◌∙◌, arith}
 use Rattle.alpha_asm.specs.Data.{DataBytes, before_gaps}
-use Rattle.alpha_asm.proofs.Spreading.{length-spread}
+use Rattle.alpha_asm.proofs.DataGaps.{length-spread}
 use Rattle.alpha_asm.proofs.data.Data.len.Goals as goal
 
 pub returns-clause-value : goal.returns-clause-value

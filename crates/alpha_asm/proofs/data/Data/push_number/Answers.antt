@@ -1,4 +1,4 @@
-use Rattle.alpha_asm.proofs.Pushing.{pushed_more, pushed_all}
+use Rattle.alpha_asm.proofs.DataValues.{pushed_more, pushed_all}
 use Rattle.alpha_asm.proofs.data.Data.push_number.Goals as goal
 
 pub loop-preserved : goal.loop-preserved

@@ -1,7 +1,7 @@
 use Rattle.std.proofs.Common.{◌≡◌, ◌+◌, ◌-◌, ◌++◌, length, replicate, ap, ◌∙◌, arith}
 use Rattle.alpha_asm.specs.declared.data.Gap.{Gap}
 use Rattle.alpha_asm.specs.Data.{DataBytes, before_gaps, zeros_of_gaps, spread}
-use Rattle.alpha_asm.proofs.Spreading.{before-snoc, zeros-snoc, spread-gap}
+use Rattle.alpha_asm.proofs.DataGaps.{before-snoc, zeros-snoc, spread-gap}
 use Rattle.alpha_asm.proofs.data.Data.push_zeros.Goals as goal
 
 pub invariant_of-self-2 : goal.invariant_of-self-2

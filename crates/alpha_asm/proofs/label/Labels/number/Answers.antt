@@ -1,4 +1,4 @@
-use Rattle.alpha_names.proofs.Values.{stands_at}
+use Rattle.alpha_names.proofs.NameValues.{stands_at}
 use Rattle.alpha_asm.proofs.label.Labels.number.Goals as goal
 
 pub returns-clause-number : goal.returns-clause-number

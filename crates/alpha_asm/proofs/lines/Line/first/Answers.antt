@@ -1,16 +1,21 @@
 use Rattle.std.proofs.Common.{◌≡◌, ◌+◌, ◌-◌, length, take, drop, refl, arith}
 use Rattle.std.proofs.lemmas.Grind.{common_steps}
 use Rattle.std.specs.Str.Lines.{strip_carriage_return}
-use Rattle.alpha_asm.proofs.Lining.{first_found, last_found, first_text}
+use Rattle.alpha_asm.proofs.FirstLine.{first_found, last_found, first_text}
 use Rattle.alpha_asm.proofs.lines.Line.first.Goals as goal
 
 pub returns-in-Some-clause-first : goal.returns-in-Some-clause-first
 returns-in-Some-clause-first c =
     first_found c.args.source.now c.in-Some.n _ c.in-Some.ensures
-    (let e : c.without_return.result.now ≡ strip_carriage_return (take c.in-Some.n c.args.source.now) = grind (arith, common_steps) in e)
+    (let e : c.without_return.result.now ≡ strip_carriage_return (take c.in-Some.n c.args.source.now) =
+    grind (arith, common_steps) in
+    e)
     (let e : take (c.in-Some.n + 1) c.args.source.now ≡ take (c.in-Some.n + 1) c.args.source.now = refl in e)
     refl
-    (let e : take (length c.args.source.now - (c.in-Some.n + 1)) (drop (c.in-Some.n + 1) c.args.source.now) ≡ drop (c.in-Some.n + 1) c.args.source.now = grind (arith, common_steps) in e)
+    (let e : take (length c.args.source.now - (c.in-Some.n + 1)) (drop (c.in-Some.n + 1) c.args.source.now)
+    ≡ drop (c.in-Some.n + 1) c.args.source.now =
+    grind (arith, common_steps) in
+    e)
 
 pub returns-in-None-clause-first : goal.returns-in-None-clause-first
 returns-in-None-clause-first c = last_found c.args.source.now _ c.requires c.in-None.ensures refl refl refl refl

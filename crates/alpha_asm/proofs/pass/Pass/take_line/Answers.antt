@@ -1,26 +1,34 @@
 use Rattle.std.proofs.Common.{[], ◌∷◌, ◌++◌, ◌∙◌, ap, sym}
-use Rattle.alpha_text.specs.Reading.{LineSaid}
+use Rattle.alpha_text.specs.Reading.{LineStmt}
 use Rattle.alpha_quick.specs.Parts.{unlabelled}
 use Rattle.alpha_asm.specs.LineKinds.{line_kind}
-use Rattle.alpha_asm.proofs.Refusing.{long_line, read_insn, insn_at, item_line, next_line}
+use Rattle.alpha_asm.proofs.LineRefusals.{long_line, read_insn, insn_at, item_line, next_line}
 use Rattle.alpha_asm.proofs.pass.Pass.take_line.Goals as goal
 
 pub returns-then-line-gt-LONGEST_LINE-clause-refused : goal.returns-then-line-gt-LONGEST_LINE-clause-refused
-returns-then-line-gt-LONGEST_LINE-clause-refused c = λ other is s. long_line c.args.kind is _ _ s c.if-line-gt-LONGEST_LINE.true
+returns-then-line-gt-LONGEST_LINE-clause-refused c =
+    λ other is s. long_line c.args.kind is _ _ s c.if-line-gt-LONGEST_LINE.true
 
 pub returns-in_ok-push_insn-in-Ok-take_code-clause-ok : goal.returns-in_ok-push_insn-in-Ok-take_code-clause-ok
 returns-in_ok-push_insn-in-Ok-take_code-clause-ok c = λ is s.
-    next_line c.args.kind is c.args.line.now (unlabelled c.in-Ok.insn) _ _ s (read_insn c.args.line.now c.in-Ok.insn c.in-Ok.ensures.line) (c.in-Ok-take_code.ensures.taken c.args.kind) c.in-Ok-take_code.ensures.ok
+    next_line c.args.kind is c.args.line.now (unlabelled c.in-Ok.insn) _ _ s
+    (read_insn c.args.line.now c.in-Ok.insn c.in-Ok.ensures.line)
+    (c.in-Ok-take_code.ensures.taken c.args.kind) c.in-Ok-take_code.ensures.ok
 
 pub returns-in_ok-push_insn-in-Ok-take_code-clause-taken : goal.returns-in_ok-push_insn-in-Ok-take_code-clause-taken
 returns-in_ok-push_insn-in-Ok-take_code-clause-taken c = λ is s.
-    item_line c.args.kind is c.args.line.now (unlabelled c.in-Ok.insn) _ s c.if-line-gt-LONGEST_LINE.false (read_insn c.args.line.now c.in-Ok.insn c.in-Ok.ensures.line) ∙ c.in-Ok-take_code.ensures.taken c.args.kind
+    item_line c.args.kind is c.args.line.now (unlabelled c.in-Ok.insn) _ s c.if-line-gt-LONGEST_LINE.false
+    (read_insn c.args.line.now c.in-Ok.insn c.in-Ok.ensures.line)
+    ∙ c.in-Ok-take_code.ensures.taken c.args.kind
 
 pub returns-in_ok-push_insn-in-Ok-take_code-clause-kinds : goal.returns-in_ok-push_insn-in-Ok-take_code-clause-kinds
 returns-in_ok-push_insn-in-Ok-take_code-clause-kinds c = λ gathers.
     c.in_ok-push_insn-in-Ok-take_code.ensures.items gathers
-    ∙ ap (λ (i : LineSaid). c.args.kinds.now.items.items ++ (line_kind i.statement ∷ [])) (sym (insn_at c.args.line.now c.in-Ok.insn c.in-Ok.ensures.line))
+    ∙ ap (λ (i : LineStmt). c.args.kinds.now.items.items ++ (line_kind i.statement ∷ []))
+    (sym (insn_at c.args.line.now c.in-Ok.insn c.in-Ok.ensures.line))
 
 pub returns-in-Err-take_code-clause-refused : goal.returns-in-Err-take_code-clause-refused
 returns-in-Err-take_code-clause-refused c = λ other is s.
-    item_line c.args.kind is c.args.line.now (unlabelled c.in-Ok.insn) _ s c.if-line-gt-LONGEST_LINE.false (read_insn c.args.line.now c.in-Ok.insn c.in-Ok.ensures.line) ∙ c.in-Err-take_code.ensures.refused other c.args.kind
+    item_line c.args.kind is c.args.line.now (unlabelled c.in-Ok.insn) _ s c.if-line-gt-LONGEST_LINE.false
+    (read_insn c.args.line.now c.in-Ok.insn c.in-Ok.ensures.line)
+    ∙ c.in-Err-take_code.ensures.refused other c.args.kind

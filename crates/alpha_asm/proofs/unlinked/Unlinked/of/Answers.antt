@@ -10,4 +10,5 @@ returns-clause-good c = lines_unlinked [] (lines c.args.source.now) c.in_ok-pass
 pub returns-clause-level : goal.returns-clause-level
 returns-clause-level c =
     let is = map item_at (lines c.args.source.now) in
-    c.in_ok-behind.ensures.level is c.in_ok-pass.ensures.stands (level_unset is (lines_unlinked [] (lines c.args.source.now) c.in_ok-pass.ensures.taken))
+    c.in_ok-of_pass.ensures.level is c.in_ok-pass.ensures.stands
+    (level_unset is (lines_unlinked [] (lines c.args.source.now) c.in_ok-pass.ensures.taken))

@@ -3,41 +3,56 @@ use Rattle.alpha_io.specs.Supply.{Supply}
 use Rattle.alpha_seq.specs.Devices.{drawn}
 use Rattle.alpha_debug.specs.declared.end.DebugEnd.TheVariants as ends
 use Rattle.alpha_request.specs.declared.request.ImageCommand.TheVariants.{Debug}
-use Rattle.alpha_cmd.specs.Does.{Does}
+use Rattle.alpha_cmd.specs.CommandEffect.{CommandEffect}
 use Rattle.alpha_cmd.specs.OfImage.{on}
-use Rattle.alpha_cmd.proofs.Doing.{does_not_start}
-use Rattle.alpha_cmd.proofs.Told.{session_whole, session_unread, session_unwritten, tail, tail_same}
+use Rattle.alpha_cmd.proofs.StageEffects.{does_not_start}
+use Rattle.alpha_cmd.proofs.SessionsTold.{session_whole, session_unread, session_unwritten, Follows-LeavesTail}
+use Rattle.alpha_cmd.proofs.SessionsTold.{tail_same}
 use Rattle.alpha_cmd.proofs.of_image.debug.session.Goals as goal
 
 pub returns-in-Done : goal.returns-in-Done
 returns-in-Done g c = record {
   does =
-      session_whole g.H.Shelf g.S.Source g.K.Sink g.N.Sink c.args.devices.now c.debug.new.script c.debug.new.out c.args.image ends.Done c.said.result (inl refl)
-      c.said.ensures.answer c.in-Done.ensures.effect;
-  script = tail c.args.image (drawn g.S.Source c.args.devices.now.input c.debug.new.script) c.in-Done.ensures.effect.told c.in-Done.ensures.effect.follows;
+      session_whole g.H.Shelf g.S.Source g.K.Sink g.N.Sink c.args.devices.now c.debug.new.script c.debug.new.out
+      c.args.image ends.Done c.of_status.result (inl refl)
+      c.of_status.ensures.answer c.in-Done.ensures.effect;
+  script =
+      Follows-LeavesTail c.args.image
+      (drawn g.S.Source c.args.devices.now.input c.debug.new.script) c.in-Done.ensures.effect.told
+      c.in-Done.ensures.effect.follows;
 }
 
 pub returns-in-TooLarge : goal.returns-in-TooLarge
 returns-in-TooLarge g c = record {
   does =
-      session_whole g.H.Shelf g.S.Source g.K.Sink g.N.Sink c.args.devices.now c.debug.new.script c.debug.new.out c.args.image ends.TooLarge c.said-in-TooLarge.result (inr refl)
-      c.said-in-TooLarge.ensures.answer c.in-TooLarge.ensures.effect;
-  script = tail c.args.image (drawn g.S.Source c.args.devices.now.input c.debug.new.script) c.in-TooLarge.ensures.effect.told c.in-TooLarge.ensures.effect.follows;
+      session_whole g.H.Shelf g.S.Source g.K.Sink g.N.Sink c.args.devices.now c.debug.new.script c.debug.new.out
+      c.args.image ends.TooLarge c.of_status-in-TooLarge.result (inr refl)
+      c.of_status-in-TooLarge.ensures.answer c.in-TooLarge.ensures.effect;
+  script =
+      Follows-LeavesTail c.args.image
+      (drawn g.S.Source c.args.devices.now.input c.debug.new.script) c.in-TooLarge.ensures.effect.told
+      c.in-TooLarge.ensures.effect.follows;
 }
 
 pub returns-in-InputFault : goal.returns-in-InputFault
 returns-in-InputFault g c = record {
   does =
-      session_unread g.H.Shelf g.S.Source g.K.Sink g.N.Sink c.args.devices.now c.debug.new.script c.debug.new.out c.args.image c.said-in-InputFault.result
-      c.said-in-InputFault.ensures.answer c.in-InputFault.ensures.effect;
-  script = tail c.args.image (drawn g.S.Source c.args.devices.now.input c.debug.new.script) c.in-InputFault.ensures.effect.told c.in-InputFault.ensures.effect.follows;
+      session_unread g.H.Shelf g.S.Source g.K.Sink g.N.Sink c.args.devices.now c.debug.new.script c.debug.new.out
+      c.args.image c.of_status-in-InputFault.result
+      c.of_status-in-InputFault.ensures.answer c.in-InputFault.ensures.effect;
+  script =
+      Follows-LeavesTail c.args.image (drawn g.S.Source c.args.devices.now.input c.debug.new.script)
+      c.in-InputFault.ensures.effect.told c.in-InputFault.ensures.effect.follows;
 }
 
 pub returns-in-SinkFault : goal.returns-in-SinkFault
 returns-in-SinkFault g c = record {
   does =
-      session_unwritten g.H.Shelf g.S.Source g.K.Sink g.N.Sink c.args.devices.now c.debug.new.script c.debug.new.out c.args.image _ c.in-SinkFault.ensures.effect;
-  script = tail c.args.image (drawn g.S.Source c.args.devices.now.input c.debug.new.script) c.in-SinkFault.ensures.effect.told c.in-SinkFault.ensures.effect.follows;
+      session_unwritten g.H.Shelf g.S.Source g.K.Sink g.N.Sink c.args.devices.now c.debug.new.script c.debug.new.out
+      c.args.image _ c.in-SinkFault.ensures.effect;
+  script =
+      Follows-LeavesTail c.args.image (drawn g.S.Source c.args.devices.now.input c.debug.new.script)
+      c.in-SinkFault.ensures.effect.told c.in-SinkFault.ensures.effect.follows;
 }
 
 -- neither device was called
@@ -45,9 +60,16 @@ pub returns-in-NoMemory-clause-does : goal.returns-in-NoMemory-clause-does
 returns-in-NoMemory-clause-does g c =
     let old = c.args.devices.now in
     let (quiet, calm) = c.in-NoMemory.ensures.same refl in
-    subst (λ script. Does g.H.Shelf g.S.Source g.K.Sink g.N.Sink (on Debug c.args.image) (Ok c.said-in-NoMemory.result) old (record old { input = script; out = c.debug.new.out })) (sym quiet)
-    (subst (λ out. Does g.H.Shelf g.S.Source g.K.Sink g.N.Sink (on Debug c.args.image) (Ok c.said-in-NoMemory.result) old (record old { out = out })) (sym calm)
-    (does_not_start g.H.Shelf g.S.Source g.K.Sink g.N.Sink old (on Debug c.args.image) c.said-in-NoMemory.result c.said-in-NoMemory.ensures.answer))
+    subst (λ script. CommandEffect g.H.Shelf g.S.Source g.K.Sink g.N.Sink (on Debug c.args.image)
+    (Ok c.of_status-in-NoMemory.result) old (record old { input = script; out = c.debug.new.out }))
+    (sym quiet)
+    (subst (λ out. CommandEffect g.H.Shelf g.S.Source g.K.Sink g.N.Sink
+    (on Debug c.args.image) (Ok c.of_status-in-NoMemory.result) old (record old { out = out }))
+    (sym calm)
+    (does_not_start g.H.Shelf g.S.Source g.K.Sink g.N.Sink old
+    (on Debug c.args.image) c.of_status-in-NoMemory.result c.of_status-in-NoMemory.ensures.answer))
 
 pub returns-in-NoMemory-clause-script : goal.returns-in-NoMemory-clause-script
-returns-in-NoMemory-clause-script g c = tail_same (g.S.Source.left c.args.devices.now.input) (g.S.Source.left c.debug.new.script) (ap (λ (s : Supply). s.left) c.in-NoMemory.ensures.effect.0.left)
+returns-in-NoMemory-clause-script g c =
+    tail_same (g.S.Source.left c.args.devices.now.input) (g.S.Source.left c.debug.new.script)
+    (ap (λ (s : Supply). s.left) c.in-NoMemory.ensures.effect.0.left)

@@ -1,4 +1,4 @@
-use Rattle.alpha_debug.proofs.Watching.{watcher_passes}
+use Rattle.alpha_debug.proofs.WatchedSteps.{watcher_passes}
 use Rattle.alpha_debug.proofs.watcher.WatcherObserver.pass.Goals as goal
 
 pub returns : goal.returns

@@ -5,4 +5,8 @@ use Rattle.alpha_image.proofs.header.Header.filled_before.Goals as goal
 
 pub filled-requires : goal.filled-requires
 filled-requires c =
-    rw c.deref.ensures.0 (omega (arith, filled_size-take c.args.self.now.segments.items c.args.n, filled_size-fits (header_numbers c.args.self.now) c.requires.fits))
+    rw c.deref.ensures.0 (omega (
+      arith,
+      filled_size-take c.args.self.now.segments.items c.args.n,
+      filled_size-fits (header_numbers c.args.self.now) c.requires.fits,
+    ))

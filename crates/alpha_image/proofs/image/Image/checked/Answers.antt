@@ -18,10 +18,14 @@ invariant_of-result c =
     let words : length (words_of code) ≡ h.words = omega (arith, c.requires.words, length-words_of code) in
     let none = rw c.level.ensures.value at c.in_ok-insns.ensures.fault in
     let good : IsImage (parts_with h.version n (words_of code) bytes) =
-    IsImage-parts_with h.version n code bytes c.requires.fields c.requires.suits c.requires.words c.requires.filled (λ i. omega (arith, c.type_inv.code i)) (λ i. omega (arith, c.type_inv.bytes i)) none in
-    let same : numbers (parts_with h.version n (words_of code) bytes) ≡ n = numbers-parts_with h.version n (words_of code) bytes c.requires.fields words in
+    IsImage-parts_with h.version n code bytes c.requires.fields c.requires.matches_version c.requires.words
+    c.requires.filled
+    (λ i. omega (arith, c.type_inv.code i)) (λ i. omega (arith, c.type_inv.bytes i)) none in
+    let same : numbers (parts_with h.version n (words_of code) bytes) ≡ n =
+    numbers-parts_with h.version n (words_of code) bytes c.requires.fields words in
     let read = c.in_ok-insns.ensures.insns in
-    let spelled : map encoded c.in_ok-insns.insns.items ≡ words_of code = sym (words_of_insns (numbered_level h.fields.level) (words_of code) c.in_ok-insns.insns.items good.words read) in
+    let spelled : map encoded c.in_ok-insns.insns.items ≡ words_of code =
+    sym (words_of_insns (numbered_level h.fields.level) (words_of code) c.in_ok-insns.insns.items good.words read) in
     record {
       good = rw (spelled, c.in_ok-from_slice.ensures.items) good;
       numbers = rw spelled same;
@@ -37,8 +41,11 @@ returns-clause-good c =
     let bytes = c.args.bytes.now in
     let none = rw c.level.ensures.value at c.in_ok-insns.ensures.fault in
     let good : IsImage (parts_with h.version n (words_of code) bytes) =
-    IsImage-parts_with h.version n code bytes c.requires.fields c.requires.suits c.requires.words c.requires.filled (λ i. omega (arith, c.type_inv.code i)) (λ i. omega (arith, c.type_inv.bytes i)) none in
-    let spelled : map encoded c.in_ok-insns.insns.items ≡ words_of code = sym (words_of_insns (numbered_level h.fields.level) (words_of code) c.in_ok-insns.insns.items good.words c.in_ok-insns.ensures.insns) in
+    IsImage-parts_with h.version n code bytes c.requires.fields c.requires.matches_version c.requires.words
+    c.requires.filled
+    (λ i. omega (arith, c.type_inv.code i)) (λ i. omega (arith, c.type_inv.bytes i)) none in
+    let spelled : map encoded c.in_ok-insns.insns.items ≡ words_of code = sym (words_of_insns
+    (numbered_level h.fields.level) (words_of code) c.in_ok-insns.insns.items good.words c.in_ok-insns.ensures.insns) in
     rw (spelled, c.in_ok-from_slice.ensures.items) good
 
 pub returns-clause-parts : goal.returns-clause-parts
@@ -49,6 +56,9 @@ returns-clause-parts c =
     let bytes = c.args.bytes.now in
     let none = rw c.level.ensures.value at c.in_ok-insns.ensures.fault in
     let good : IsImage (parts_with h.version n (words_of code) bytes) =
-    IsImage-parts_with h.version n code bytes c.requires.fields c.requires.suits c.requires.words c.requires.filled (λ i. omega (arith, c.type_inv.code i)) (λ i. omega (arith, c.type_inv.bytes i)) none in
-    let spelled : map encoded c.in_ok-insns.insns.items ≡ words_of code = sym (words_of_insns (numbered_level h.fields.level) (words_of code) c.in_ok-insns.insns.items good.words c.in_ok-insns.ensures.insns) in
+    IsImage-parts_with h.version n code bytes c.requires.fields c.requires.matches_version c.requires.words
+    c.requires.filled
+    (λ i. omega (arith, c.type_inv.code i)) (λ i. omega (arith, c.type_inv.bytes i)) none in
+    let spelled : map encoded c.in_ok-insns.insns.items ≡ words_of code = sym (words_of_insns
+    (numbered_level h.fields.level) (words_of code) c.in_ok-insns.insns.items good.words c.in_ok-insns.ensures.insns) in
     rw (spelled, c.in_ok-from_slice.ensures.items) refl

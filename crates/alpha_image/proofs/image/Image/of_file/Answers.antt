@@ -18,11 +18,14 @@ returns-in_err-insns-clause-fault c =
     let level = numbered_level c.args.header.fields.level in
     let front = rw c.deref.ensures.value at c.split_at.ensures.front in
     let back = rw c.deref.ensures.value at c.split_at.ensures.back in
-    let cut = code_cut bytes c.front_size.result c.args.header.version (header_numbers c.args.header) code c.split_at.result.1.now fits c.requires.form c.front_size.ensures.value
+    let cut = code_cut bytes c.front_size.result c.args.header.version
+    (header_numbers c.args.header) code c.split_at.result.1.now fits c.requires.form c.front_size.ensures.value
     c.requires.version c.requires.numbers front back in
     let p = err_from_is_err_and c.from_residual.result c.from_residual.ensures.1 in
     let refused = rw c.level.ensures.value at c.in_err-insns.ensures.fault in
-    rw (p.1, p.2) (subst (λ (words : List ℕ). Refuses c.in_err-insns.field-0.0 (word_fault level words)) (words_cut bytes code cut) refused)
+    rw (p.1, p.2)
+    (subst (λ (words : List ℕ). Refuses c.in_err-insns.field-0.0 (word_fault level words))
+    (words_cut bytes code cut) refused)
 
 pub invariant_of-result : goal.invariant_of-result
 invariant_of-result c =
@@ -31,9 +34,16 @@ invariant_of-result c =
     let front = rw c.deref.ensures.value at c.split_at.ensures.front in
     let back = rw c.deref.ensures.value at c.split_at.ensures.back in
     let none = rw c.level.ensures.value at c.in_ok-insns.ensures.fault in
-    let k = of_file bytes c.front_size.result c.args.header.version (header_numbers c.args.header) c.split_at.result.0.now c.split_at.result.1.now fits c.requires.form c.front_size.ensures.value
-    c.requires.version c.requires.numbers front back (c.len.result - length c.split_at.result.1.now) (omega (arith, c.len.ensures, c.args.bytes.ok.0)) c.in_ok-insns.insns.items none c.in_ok-insns.ensures.insns in
-    record { good = k.good; numbers = k.numbers; insns = k.insns; within = omega (arith, c.len.ensures, c.args.bytes.ok.0) }
+    let k = of_file bytes c.front_size.result c.args.header.version (header_numbers c.args.header)
+    c.split_at.result.0.now c.split_at.result.1.now fits c.requires.form c.front_size.ensures.value
+    c.requires.version c.requires.numbers front back (c.len.result - length c.split_at.result.1.now)
+    (omega (arith, c.len.ensures, c.args.bytes.ok.0)) c.in_ok-insns.insns.items none c.in_ok-insns.ensures.insns in
+    record {
+      good = k.good;
+      numbers = k.numbers;
+      insns = k.insns;
+      within = omega (arith, c.len.ensures, c.args.bytes.ok.0);
+    }
 
 pub returns-clause-fault : goal.returns-clause-fault
 returns-clause-fault c =
@@ -43,7 +53,8 @@ returns-clause-fault c =
     let front = rw c.deref.ensures.value at c.split_at.ensures.front in
     let back = rw c.deref.ensures.value at c.split_at.ensures.back in
     let none = rw c.level.ensures.value at c.in_ok-insns.ensures.fault in
-    let cut = code_cut bytes c.front_size.result c.args.header.version (header_numbers c.args.header) code c.split_at.result.1.now fits c.requires.form c.front_size.ensures.value
+    let cut = code_cut bytes c.front_size.result c.args.header.version
+    (header_numbers c.args.header) code c.split_at.result.1.now fits c.requires.form c.front_size.ensures.value
     c.requires.version c.requires.numbers front back in
     ap (word_fault (numbered_level c.args.header.fields.level)) (sym (words_cut bytes code cut)) ∙ none
 
@@ -57,6 +68,8 @@ returns-clause-parts c =
     let front = rw c.deref.ensures.value at c.split_at.ensures.front in
     let back = rw c.deref.ensures.value at c.split_at.ensures.back in
     let none = rw c.level.ensures.value at c.in_ok-insns.ensures.fault in
-    let k = of_file bytes c.front_size.result c.args.header.version (header_numbers c.args.header) c.split_at.result.0.now c.split_at.result.1.now fits c.requires.form c.front_size.ensures.value
-    c.requires.version c.requires.numbers front back (c.len.result - length c.split_at.result.1.now) (omega (arith, c.len.ensures, c.args.bytes.ok.0)) c.in_ok-insns.insns.items none c.in_ok-insns.ensures.insns in
+    let k = of_file bytes c.front_size.result c.args.header.version (header_numbers c.args.header)
+    c.split_at.result.0.now c.split_at.result.1.now fits c.requires.form c.front_size.ensures.value
+    c.requires.version c.requires.numbers front back (c.len.result - length c.split_at.result.1.now)
+    (omega (arith, c.len.ensures, c.args.bytes.ok.0)) c.in_ok-insns.insns.items none c.in_ok-insns.ensures.insns in
     k.parts

@@ -12,7 +12,8 @@ returns-clause-good c =
     let h = c.args.header in
     let insns = c.args.insns.items in
     let size : length (map encoded insns) ≡ h.words = length-map insns encoded ∙ c.requires.words in
-    IsImage-of_words h.version (header_numbers h) (map encoded insns) c.args.bytes.items c.requires.fields c.requires.suits size c.requires.filled
+    IsImage-of_words h.version (header_numbers h)
+    (map encoded insns) c.args.bytes.items c.requires.fields c.requires.matches_version size c.requires.filled
     (code_words_of_insns (numbered_level h.fields.level) insns c.requires.insns).0 c.requires.bytes
 
 pub invariant_of-result : goal.invariant_of-result
@@ -22,12 +23,15 @@ invariant_of-result c =
     let size : length (map encoded insns) ≡ h.words = length-map insns encoded ∙ c.requires.words in
     record {
       good =
-          IsImage-of_words h.version (header_numbers h) (map encoded insns) c.args.bytes.items c.requires.fields c.requires.suits size c.requires.filled
+          IsImage-of_words h.version (header_numbers h)
+          (map encoded insns) c.args.bytes.items c.requires.fields c.requires.matches_version size c.requires.filled
           (code_words_of_insns (numbered_level h.fields.level) insns c.requires.insns).0 c.requires.bytes;
-      numbers = numbers-parts_with h.version (header_numbers h) (map encoded insns) c.args.bytes.items c.requires.fields size;
+      numbers =
+          numbers-parts_with h.version (header_numbers h) (map encoded insns) c.args.bytes.items c.requires.fields size;
       insns = (code_words_of_insns (numbered_level h.fields.level) insns c.requires.insns).1;
       within = omega arith;
     }
 
 pub returns-clause-insns : goal.returns-clause-insns
-returns-clause-insns c = (code_words_of_insns (numbered_level c.args.header.fields.level) c.args.insns.items c.requires.insns).1
+returns-clause-insns c =
+    (code_words_of_insns (numbered_level c.args.header.fields.level) c.args.insns.items c.requires.insns).1

@@ -16,21 +16,26 @@ pub split_at-requires-2 : goal.split_at-requires-2
 split_at-requires-2 c =
     let p = c.args.self.now in
     let segments = ap (λ (q : Parts). q.segments) c.self.view_is in
-    let before : c.filled_before-before.result ≡ filled_size (take c.args.n p.segments) = c.filled_before-before.ensures.value ∙ ap (λ (xs : List Segment). filled_size (take c.args.n xs)) segments in
-    let all : length c.data_bytes.result.now ≡ filled_size p.segments = ap length c.data_bytes.ensures.value ∙ c.in_ok-segment.ensures.good.filled in
+    let before : c.filled_before-before.result ≡ filled_size (take c.args.n p.segments) =
+    c.filled_before-before.ensures.value ∙ ap (λ (xs : List Segment). filled_size (take c.args.n xs)) segments in
+    let all : length c.data_bytes.result.now ≡ filled_size p.segments =
+    ap length c.data_bytes.ensures.value ∙ c.in_ok-segment.ensures.good.filled in
     let within = piece_within p.segments c.args.n c.in_ok-segment.segment (sym c.in_ok-segment.ensures.value) in
-    let behind : length c.split_at.result.1.now ≡ length c.data_bytes.result.now - c.filled_before-before.result = ap length c.split_at.ensures.back ∙ length-drop c.filled_before-before.result c.data_bytes.result.now in
+    let behind : length c.split_at.result.1.now ≡ length c.data_bytes.result.now - c.filled_before-before.result =
+    ap length c.split_at.ensures.back ∙ length-drop c.filled_before-before.result c.data_bytes.result.now in
     omega arith
 
 pub returns-clause-found : goal.returns-clause-found
 returns-clause-found c =
-    let within = slice_get_within c.args.self.now.segments c.args.n c.in_ok-segment.segment (sym c.in_ok-segment.ensures.value) in
+    let within =
+    slice_get_within c.args.self.now.segments c.args.n c.in_ok-segment.segment (sym c.in_ok-segment.ensures.value) in
     (λ _. within, λ _. refl)
 
 pub returns-clause-value : goal.returns-clause-value
 returns-clause-value c =
     let p = c.args.self.now in
     let segments = ap (λ (q : Parts). q.segments) c.self.view_is in
-    let before : c.filled_before-before.result ≡ filled_size (take c.args.n p.segments) = c.filled_before-before.ensures.value ∙ ap (λ (xs : List Segment). filled_size (take c.args.n xs)) segments in
+    let before : c.filled_before-before.result ≡ filled_size (take c.args.n p.segments) =
+    c.filled_before-before.ensures.value ∙ ap (λ (xs : List Segment). filled_size (take c.args.n xs)) segments in
     rw (c.split_at-2.ensures.front, c.split_at.ensures.back, c.data_bytes.ensures.value, before)
     (sym (slice_get-pieces_of p.segments p.bytes c.args.n c.in_ok-segment.segment (sym c.in_ok-segment.ensures.value)))

@@ -1,13 +1,17 @@
 use Rattle.std.proofs.Common.{◌≡◌, None}
-use Rattle.alpha_link.proofs.Imaged.{joined_allowed}
-use Rattle.alpha_link.proofs.Joining.{joins_one}
+use Rattle.alpha_link.proofs.LinkedImages.{joined_allowed}
+use Rattle.alpha_link.proofs.JoinedModules.{joins_one}
 use Rattle.alpha_link.proofs.output.Output.join.Goals as goal
 
 pub returns-clause-joined : goal.returns-clause-joined
 returns-clause-joined c = λ ok.
     let none : c.put_all.result ≡ None = cc in
-    joins_one c.in_ok-addresses.addresses _ c.args.located.now c.args.self.now c.append.new.self c.put_all.new.self c.append.ensures.good c.in_ok-addresses.ensures.value c.requires.words c.requires.filled
-    c.in_ok-append.ensures.code c.in_ok-append.ensures.bytes c.in_ok-append.ensures.size (c.put_all.ensures.code none) (c.put_all.ensures.bytes none)
+    joins_one c.in_ok-addresses.addresses _ c.args.located.now c.args.self.now c.append.new.self c.put_all.new.self
+    c.append.ensures.good c.in_ok-addresses.ensures.value c.requires.words c.requires.filled
+    c.in_ok-append.ensures.code c.in_ok-append.ensures.bytes c.in_ok-append.ensures.size (c.put_all.ensures.code none)
+    (c.put_all.ensures.bytes none)
 
 pub returns-clause-insns : goal.returns-clause-insns
-returns-clause-insns c = λ ok all. joined_allowed _ c.args.located.now c.args.self.now c.put_all.new.self c.append.ensures.good (returns-clause-joined c ok) all
+returns-clause-insns c =
+    λ ok all. joined_allowed _ c.args.located.now c.args.self.now c.put_all.new.self c.append.ensures.good
+    (returns-clause-joined c ok) all

@@ -14,8 +14,10 @@ loop-number-preserved c =
     let l : Located = c.args.located.now in
     let i = c.loop-number.number in
     let s = named c.at.result in
-    let same = ap (λ (m : ModuleParts). m.symbols) c.module.view_is ∙ ap (λ (x : Located). x.parts.symbols) c.located.view_is in
-    let here : slice_get l.parts.symbols i ≡ Some s = ap (λ (xs : List Named). slice_get xs i) (sym same) ∙ c.at.ensures in
+    let same =
+    ap (λ (m : ModuleParts). m.symbols) c.module.view_is ∙ ap (λ (x : Located). x.parts.symbols) c.located.view_is in
+    let here : slice_get l.parts.symbols i ≡ Some s =
+    ap (λ (xs : List Named). slice_get xs i) (sym same) ∙ c.at.ensures in
     let f = address_by_own (found_in c.args.self.now) l in
     let before = c.loop-number.all.items in
     let address : Some c.in-Some.address ≡ f s = sym c.in-Some.is ∙ c.address_of.ensures in

@@ -11,6 +11,9 @@ abbrev pub invariant-loop-number : goal.invariant-loop-number
 invariant-loop-number l = record {
   count : l.self.row.count ≡ l.initial.self.row.count + l.number;
   places : l.self.row.places.now ≡ l.initial.self.row.places.now;
-  so_far : (name : List ℕ) → found_in l.self name ≡ option_or (found_in l.initial.self name) (first (named_address l.located name) (take l.number l.located.parts.symbols));
-  single : position_from (λ s. is_defined s.section && is_some (found_in l.initial.self s.name)) l.number (drop l.number l.located.parts.symbols) ≡ again_in (found_in l.initial.self) l.located;
+  so_far : (name : List ℕ) → found_in l.self name ≡ option_or (found_in l.initial.self name)
+      (first (named_address l.located name) (take l.number l.located.parts.symbols));
+  single : position_from (λ s. is_defined s.section && is_some (found_in l.initial.self s.name)) l.number
+      (drop l.number l.located.parts.symbols)
+      ≡ again_in (found_in l.initial.self) l.located;
 }

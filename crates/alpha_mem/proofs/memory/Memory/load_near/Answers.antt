@@ -11,13 +11,21 @@ returns-then-addr-len-ne0-clause-fault c =
 
 pub number_of-requires : goal.number_of-requires
 number_of-requires c =
-    let bytes : length c.in-Some.bytes.now ≡ length (bytes_at c.args.self.now c.args.addr c.bytes-len.result) = ap length c.in-Some.ensures.found in
-    omega (arith, length-bytes_at_le c.args.self.now c.args.addr c.bytes-len.result, size_of-le c.args.size, c.bytes-len.ensures)
+    let bytes : length c.in-Some.bytes.now ≡ length (bytes_at c.args.self.now c.args.addr c.bytes-len.result) =
+    ap length c.in-Some.ensures.found in
+    omega (
+      arith,
+      length-bytes_at_le c.args.self.now c.args.addr c.bytes-len.result,
+      size_of-le c.args.size,
+      c.bytes-len.ensures,
+    )
 
 pub returns-in-Some-clause-fault : goal.returns-in-Some-clause-fault
 returns-in-Some-clause-fault c =
-    answers_none _ _ _ _ c.args.size c.bytes_near-bytes.ensures.good.layout c.bytes-len.ensures c.if-addr-len-ne0.false (c.in-Some.ensures.none.0 refl)
+    answers_none _ _ _ _ c.args.size c.bytes_near-bytes.ensures.good.layout c.bytes-len.ensures c.if-addr-len-ne0.false
+    (c.in-Some.ensures.none.0 refl)
 
 pub returns-in-None-clause-fault : goal.returns-in-None-clause-fault
 returns-in-None-clause-fault c =
-    answers_region _ _ _ _ c.args.size c.bytes_near-bytes.ensures.good.layout c.bytes-len.ensures c.if-addr-len-ne0.false (λ h. false≢true (c.in-None.ensures.none.1 h))
+    answers_region _ _ _ _ c.args.size c.bytes_near-bytes.ensures.good.layout c.bytes-len.ensures
+    c.if-addr-len-ne0.false (λ h. false≢true (c.in-None.ensures.none.1 h))

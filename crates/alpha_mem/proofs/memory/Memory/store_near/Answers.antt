@@ -6,7 +6,7 @@ use Rattle.alpha_mem.specs.Block.{Block, shapes}
 use Rattle.alpha_mem.specs.Memory.{write_bytes, IsLayout, IsMemory}
 use Rattle.alpha_mem.proofs.Numbers.{low_bytes-byte}
 use Rattle.alpha_mem.proofs.Faults.{answers_align, answers_none, answers_region}
-use Rattle.alpha_mem.proofs.Places.{spans-at_position}
+use Rattle.alpha_mem.proofs.Places.{place-spans-at_position}
 use Rattle.alpha_mem.proofs.Bytes.{shapes-write_bytes}
 use Rattle.alpha_mem.proofs.Memories.{IsMemory-write_bytes}
 use Rattle.alpha_mem.proofs.Writable.{place_found, store_there, set-stored}
@@ -21,20 +21,33 @@ returns-then-addr-len-ne0-clause-fault c =
 
 pub put_number-requires : goal.put_number-requires
 put_number-requires c =
-    spans-at_position _ _ _ _ _ (place_found _ _ _ _ c.args.size _ c.self.invariant.layout c.as_slice.ensures.value c.bytes-len.ensures c.in-Some.ensures) c.index_mut-region.ensures.value
+    place-spans-at_position _ _ _ _ _
+    (place_found _ _ _ _ c.args.size _ c.self.invariant.layout
+    c.as_slice.ensures.value c.bytes-len.ensures c.in-Some.ensures)
+    c.index_mut-region.ensures.value
 
 -- what the regions are afterwards
-after : (c : goal.After-self-1) → set c.self.inside.regions.items c.in-Some.i c.put_number.new.self ≡ write_bytes c.self.inside.regions.items c.args.addr (low_bytes (size_of c.args.size) c.args.value)
+after : (c : goal.After-self-1)
+    → set c.self.inside.regions.items c.in-Some.i c.put_number.new.self
+    ≡ write_bytes c.self.inside.regions.items c.args.addr (low_bytes (size_of c.args.size) c.args.value)
 after c =
-    set-stored _ _ c.args.size _ _ _ _ (place_found _ _ _ _ c.args.size _ c.self.invariant.layout c.as_slice.ensures.value c.bytes-len.ensures c.in-Some.ensures) c.index_mut-region.ensures.value c.put_number.ensures
+    set-stored _ _ c.args.size _ _ _ _
+    (place_found _ _ _ _ c.args.size _ c.self.invariant.layout
+    c.as_slice.ensures.value c.bytes-len.ensures c.in-Some.ensures)
+    c.index_mut-region.ensures.value c.put_number.ensures
 
 pub invariant_of-self : goal.invariant_of-self
 invariant_of-self c =
-    subst IsMemory (sym (after c)) (IsMemory-write_bytes c.self.inside.regions.items c.args.addr (low_bytes (size_of c.args.size) c.args.value) c.self.invariant (low_bytes-byte _ _))
+    subst IsMemory (sym (after c))
+    (IsMemory-write_bytes c.self.inside.regions.items c.args.addr
+    (low_bytes (size_of c.args.size) c.args.value) c.self.invariant (low_bytes-byte _ _))
 
 pub returns-in-Some-clause-fault : goal.returns-in-Some-clause-fault
 returns-in-Some-clause-fault c =
-    answers_none _ _ _ _ c.args.size (layout c.self.view_is c.self.invariant.layout) c.bytes-len.ensures c.if-addr-len-ne0.false (store_there _ _ _ _ c.args.size _ (c.as_slice.ensures.value ∙ c.self.view_is) c.bytes-len.ensures c.in-Some.ensures)
+    answers_none _ _ _ _ c.args.size
+    (layout c.self.view_is c.self.invariant.layout) c.bytes-len.ensures c.if-addr-len-ne0.false
+    (store_there _ _ _ _ c.args.size _
+    (c.as_slice.ensures.value ∙ c.self.view_is) c.bytes-len.ensures c.in-Some.ensures)
 
 pub returns-in-Some-clause-ok : goal.returns-in-Some-clause-ok
 returns-in-Some-clause-ok c =
@@ -48,5 +61,7 @@ returns-in-Some-clause-good c = invariant_of-self c
 
 pub returns-in-None-clause-fault : goal.returns-in-None-clause-fault
 returns-in-None-clause-fault c =
-    let no = store_there _ _ _ _ c.args.size _ (c.as_slice.ensures.value ∙ c.self.view_is) c.bytes-len.ensures c.in-None.ensures in
-    answers_region _ _ _ _ c.args.size (layout c.self.view_is c.self.invariant.layout) c.bytes-len.ensures c.if-addr-len-ne0.false (λ yes. false≢true (sym no ∙ yes))
+    let no = store_there _ _ _ _ c.args.size _
+    (c.as_slice.ensures.value ∙ c.self.view_is) c.bytes-len.ensures c.in-None.ensures in
+    answers_region _ _ _ _ c.args.size (layout c.self.view_is c.self.invariant.layout) c.bytes-len.ensures
+    c.if-addr-len-ne0.false (λ yes. false≢true (sym no ∙ yes))

@@ -8,8 +8,10 @@ returns-then-addr-len-ne0-clause-fault c =
 
 pub returns-then-not-there-clause-fault : goal.returns-then-not-there-clause-fault
 returns-then-not-there-clause-fault c =
-    answers_region _ _ _ _ c.args.size c.can_write-there.ensures.good.layout c.bytes-len.ensures c.if-addr-len-ne0.false (λ h. false≢true (c.if-not-there.ensures.value.1 h))
+    answers_region _ _ _ _ c.args.size c.can_write-there.ensures.good.layout c.bytes-len.ensures c.if-addr-len-ne0.false
+    (λ h. false≢true (c.if-not-there.ensures.value.1 h))
 
 pub returns-clause-fault : goal.returns-clause-fault
 returns-clause-fault c =
-    answers_none _ _ _ _ c.args.size c.can_write-there.ensures.good.layout c.bytes-len.ensures c.if-addr-len-ne0.false (c.can_write-there.ensures.value.0 c.if-not-there.false)
+    answers_none _ _ _ _ c.args.size c.can_write-there.ensures.good.layout c.bytes-len.ensures c.if-addr-len-ne0.false
+    (c.can_write-there.ensures.value.0 c.if-not-there.false)

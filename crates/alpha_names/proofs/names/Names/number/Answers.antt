@@ -1,7 +1,7 @@
 use Rattle.std.proofs.Common.{ap, ◌∙◌}
 use Rattle.std.specs.Prelude.{position}
 use Rattle.std.specs.Str.{bytes_eq}
-use Rattle.alpha_names.proofs.Naming.{is_position}
+use Rattle.alpha_names.proofs.NumberedNames.{is_position}
 use Rattle.alpha_names.proofs.names.Names.number.Goals as goal
 
 pub returns : goal.returns

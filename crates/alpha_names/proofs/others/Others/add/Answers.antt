@@ -1,5 +1,5 @@
 use Rattle.alpha_names.specs.declared.others.Others.{Others}
-use Rattle.alpha_names.proofs.Finding.{grows_other}
+use Rattle.alpha_names.proofs.NumberLookups.{grows_other}
 use Rattle.alpha_names.proofs.others.Others.add.Goals as goal
 
 pub returns-clause-ok : goal.returns-clause-ok

@@ -7,4 +7,5 @@ use Rattle.alpha_operands.proofs.Within.{follow-within}
 use Rattle.alpha_operands.proofs.shape.Shape.operands.Goals as goal
 
 pub returns-clause-good : goal.returns-clause-good
-returns-clause-good c = follow-within (patterns c.args.self) [] signs.Plus (tokens c.args.line.now) nothing _ tt c.in_ok-follow.ensures.ok
+returns-clause-good c =
+    follow-within (patterns c.args.self) [] signs.Plus (tokens c.args.line.now) nothing _ tt c.in_ok-follow.ensures.ok

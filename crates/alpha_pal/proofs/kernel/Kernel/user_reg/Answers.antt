@@ -1,7 +1,8 @@
 use Rattle.std.proofs.Common.{◌≢◌, ap, sym, ◌∙◌, arith}
 use Rattle.alpha_words.specs.Regs.{reg}
 use Rattle.alpha_pal.specs.Kernel.{user_regs}
-use Rattle.alpha_pal.proofs.Registers.{reg_16-user_regs, reg_17-user_regs, reg_18-user_regs, reg_29-user_regs, reg_30-user_regs, reg-user_regs}
+use Rattle.alpha_pal.proofs.Registers.{reg_16-user_regs, reg_17-user_regs, reg_18-user_regs, reg_29-user_regs}
+use Rattle.alpha_pal.proofs.Registers.{reg_30-user_regs, reg-user_regs}
 use Rattle.alpha_pal.proofs.kernel.Kernel.user_reg.Goals as goal
 
 pub returns-in-16 : goal.returns-in-16

@@ -1,6 +1,6 @@
 use Rattle.std.proofs.Common.{◌≢◌, refl, arith}
 use Rattle.alpha_io.specs.Supply.{supply}
-use Rattle.alpha_pal.proofs.Serving.{Serves-exit, Serves-none}
+use Rattle.alpha_pal.proofs.SystemCalls.{Serves-exit, Serves-none}
 use Rattle.alpha_pal.proofs.serve.SystemCall.serve.Goals as goal
 
 pub returns-in-1-clause-effect : goal.returns-in-1-clause-effect
@@ -11,4 +11,5 @@ returns-in_default-clause-effect g c =
     let n1 : c.args.self.number ≢ 1 = omega arith in
     let n3 : c.args.self.number ≢ 3 = omega arith in
     let n4 : c.args.self.number ≢ 4 = omega arith in
-    Serves-none c.args.self c.args.mem.now (supply g.S.Source c.args.input.now) (g.K.Sink.written c.args.out.now) n1 n3 n4
+    Serves-none c.args.self c.args.mem.now (supply g.S.Source c.args.input.now)
+    (g.K.Sink.written c.args.out.now) n1 n3 n4

@@ -1,4 +1,4 @@
-use Rattle.alpha_run.proofs.Noting.{notes_pass}
+use Rattle.alpha_run.proofs.NoteLines.{notes_pass}
 use Rattle.alpha_run.proofs.notes.NotesObserver.pass.Goals as goal
 
 pub returns : goal.returns

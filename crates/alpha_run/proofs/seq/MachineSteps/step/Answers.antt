@@ -1,15 +1,17 @@
 use Rattle.std.proofs.lemmas.Result.{IfOk-weaker, IfErr-weaker}
-use Rattle.alpha_io.specs.Sunk.{sunk}
+use Rattle.alpha_io.specs.SinkChange.{sink_change}
 use Rattle.alpha_seq.specs.Devices.{drawn}
-use Rattle.alpha_imprecise.specs.Telling.{telling}
-use Rattle.alpha_run.proofs.Turning.{told_makes, told_breaks, near_made}
+use Rattle.alpha_imprecise.specs.Oracle.{oracle_of}
+use Rattle.alpha_run.proofs.ObservedSteps.{oracle_StepMade, oracle_FaultedStep, near_made}
 use Rattle.alpha_run.proofs.seq.MachineSteps.step.Goals as goal
 
 pub returns-clause-made : goal.returns-clause-made
 returns-clause-made g c =
     IfOk-weaker c.step_by.result _ _
-    (λ event made. told_makes event c.args.self.now c.step_by.new.self (telling g.C.Chooser.ahead g.C.Chooser.drawn c.args._chooser.now)
-    (drawn g.S.Source c.args.input.now c.step_by.new.input) (sunk g.K.Sink c.args.out.now c.step_by.new.out) made)
+    (λ event made. oracle_StepMade event c.args.self.now c.step_by.new.self
+    (oracle_of g.C.Chooser.ahead g.C.Chooser.drawn c.args._chooser.now)
+    (drawn g.S.Source c.args.input.now c.step_by.new.input) (sink_change g.K.Sink c.args.out.now c.step_by.new.out)
+    made)
     c.step_by.ensures.made
 
 pub returns-clause-nearer : goal.returns-clause-nearer
@@ -18,6 +20,8 @@ returns-clause-nearer g c = near_made c.step_by.result c.args.self.now c.step_by
 pub returns-clause-broken : goal.returns-clause-broken
 returns-clause-broken g c =
     IfErr-weaker c.step_by.result _ _
-    (λ fault broken. told_breaks fault c.args.self.now c.step_by.new.self (telling g.C.Chooser.ahead g.C.Chooser.drawn c.args._chooser.now)
-    (drawn g.S.Source c.args.input.now c.step_by.new.input) (sunk g.K.Sink c.args.out.now c.step_by.new.out) broken)
+    (λ fault broken. oracle_FaultedStep fault c.args.self.now c.step_by.new.self
+    (oracle_of g.C.Chooser.ahead g.C.Chooser.drawn c.args._chooser.now)
+    (drawn g.S.Source c.args.input.now c.step_by.new.input) (sink_change g.K.Sink c.args.out.now c.step_by.new.out)
+    broken)
     c.step_by.ensures.broken

@@ -9,4 +9,4 @@ returns c =
     let a = c.args in
     c.completed.ensures
     ∙ (completed-exact a.op a.a a.b Wrap (λ h. false≢true (sym c.requires ∙ h))
-    ∙ sym (completed-exact a.op a.a a.b a.self.now.how (λ h. false≢true (sym c.requires ∙ h))))
+    ∙ sym (completed-exact a.op a.a a.b a.self.now.completion (λ h. false≢true (sym c.requires ∙ h))))

@@ -10,7 +10,7 @@ use Rattle.alpha_seq.specs.Step.{step}
 use Rattle.alpha_seq.specs.Next.{by_class}
 use Rattle.alpha_seq.specs.Machine.{program_of, state_of}
 use Rattle.alpha_seq.specs.Executed.{row_access}
-use Rattle.alpha_seq.proofs.Looking.{by_class-memory}
+use Rattle.alpha_seq.proofs.NextInsns.{by_class-memory}
 use Rattle.alpha_seq.proofs.machine.Machine.next_at.Goals as goal
 
 pub returns-in-Some : goal.returns-in-Some
@@ -23,4 +23,6 @@ returns-in-Some c = λ input.
     let fits : FitsSigned w16 i.disp = search rules in
     let plain : to_z w16 (of_z w16 i.disp) ≡ i.disp = to_z-of_z w16 i.disp fits in
     let answer = rw plain at (c.in-Some.ensures form input) in
-    subst (λ (f : Form). Faults c.in-Some.end ≡ by_class (class_of f) f (step (program_of m) (Some (class_of f)) (state_of m) input).event) c.in-Mem.ensures.value (sym (same ∙ answer))
+    subst (λ (f : Form). Faults c.in-Some.end
+    ≡ by_class (class_of f) f (step (program_of m) (Some (class_of f)) (state_of m) input).event)
+    c.in-Mem.ensures.value (sym (same ∙ answer))

@@ -1,5 +1,5 @@
 use Rattle.std.proofs.Common.{◌+◌, ◌∙◌, length, ap, sym, subst, arith}
-use Rattle.alpha_shadow.specs.Quiet.{IsQuiet, AreQuiet}
+use Rattle.alpha_shadow.specs.NoTrigger.{IsNoTrigger, AreNoTriggers}
 use Rattle.alpha_shadow.proofs.Stretches.{quiet_more}
 use Rattle.alpha_shadow.proofs.fetch.Fetch.next_trigger.Goals as goal
 
@@ -9,7 +9,7 @@ loop-place-preserved g c =
     let at = c.loop-place.place in
     let same = c.insn-insn.ensures.code in
     let loud = c.if-is_trigger.false in
-    let here : IsQuiet code at = record {
+    let here : IsNoTrigger code at = record {
       insn = c.insn-insn.result;
       there = c.insn-insn.ensures.found;
       other = λ t. let set = c.is_trigger.ensures.1 t in cc;
@@ -17,6 +17,8 @@ loop-place-preserved g c =
     record {
       same = same ∙ c.loop-place.invariant.same;
       words = c.loop-place.invariant.words ∙ ap length (sym same);
-      quiet = subst (λ k. AreQuiet k c.args.from (at + 1)) (sym same) (quiet_more code c.args.from at c.loop-place.invariant.quiet here);
+      quiet =
+          subst (λ k. AreNoTriggers k c.args.from (at + 1)) (sym same)
+          (quiet_more code c.args.from at c.loop-place.invariant.quiet here);
       looked = let n = c.insn-insn.ensures.count in let f = c.loop-place.invariant.looked in omega arith;
     }

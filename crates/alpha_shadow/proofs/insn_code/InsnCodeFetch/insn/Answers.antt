@@ -9,5 +9,6 @@ use Rattle.alpha_shadow.proofs.insn_code.InsnCodeFetch.insn.Goals as goal
 pub returns-clause-found : goal.returns-clause-found
 returns-clause-found c =
     let insns = c.self.inside.insns.now in
-    subst (λ (code : List ℕ). option_and_then decoded (slice_get code c.args.place) ≡ Some c.insn_in.result) (ap (λ (f : Fetched). f.code) c.self.view_is)
+    subst (λ (code : List ℕ). option_and_then decoded (slice_get code c.args.place) ≡ Some c.insn_in.result)
+    (ap (λ (f : Fetched). f.code) c.self.view_is)
     (decoded_there (map encoded insns) insns c.args.place c.insn_in.result c.self.invariant.known c.insn_in.ensures)

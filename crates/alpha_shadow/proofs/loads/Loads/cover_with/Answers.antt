@@ -1,5 +1,5 @@
 use Rattle.std.proofs.Common.{◌++◌, ◌∷◌, [], subst, take}
-use Rattle.alpha_shadow.specs.Held.{IsCover}
+use Rattle.alpha_shadow.specs.OpenLists.{IsCover}
 use Rattle.alpha_shadow.proofs.Covers.{cover_joined}
 use Rattle.alpha_shadow.proofs.loads.Loads.cover_with.Goals as goal
 
@@ -8,4 +8,5 @@ returns c =
     let inside = c.self.inside in
     let all = subst (λ cover. IsCover cover (take inside.len inside.held)) c.in_ok-self.was c.self.invariant.2 in
     subst (λ held. IsCover c.joined.result (held.items ++ c.args.load.now ∷ [])) c.self.view_is
-    (cover_joined c.in_ok-self.field-0 c.args.load.now c.joined.result (take inside.len inside.held) all c.joined.ensures.first c.joined.ensures.second)
+    (cover_joined c.in_ok-self.field-0 c.args.load.now c.joined.result
+    (take inside.len inside.held) all c.joined.ensures.first c.joined.ensures.second)

@@ -5,4 +5,5 @@ use Rattle.alpha_shadow.proofs.Places.{none_within}
 use Rattle.alpha_shadow.proofs.window.Window.first_within.Goals as goal
 
 pub returns-then-to-from : goal.returns-then-to-from
-returns-then-to-from c = sym (ap (option_map place_of) (none_within c.args.from c.args.to c.if-to-from.true c.args.self.now.triggers.items))
+returns-then-to-from c =
+    sym (ap (option_map place_of) (none_within c.args.from c.args.to c.if-to-from.true c.args.self.now.triggers.items))

@@ -9,4 +9,5 @@ returns-clause-opcode c =
     subst (λ (row : OpRow). row.opcode < 64) (sym c.columns.ensures) (omega (arith, within.1))
 
 pub returns-clause-function : goal.returns-clause-function
-returns-clause-function c = subst (λ (row : OpRow). row.function < 128) (sym c.columns.ensures) (function-operate c.args.self)
+returns-clause-function c =
+    subst (λ (row : OpRow). row.function < 128) (sym c.columns.ensures) (function-operate c.args.self)

@@ -1,5 +1,5 @@
 use Rattle.std.proofs.Common.{arith}
-use Rattle.alpha_words.proofs.Members.{Has-masked}
+use Rattle.alpha_words.proofs.SetMembers.{Has-masked}
 use Rattle.alpha_words.proofs.set.RegSet.bit.Goals as goal
 
 pub returns-clause-members : goal.returns-clause-members

@@ -1,5 +1,5 @@
 use Rattle.std.proofs.lemmas.Bool.{eq-eqb, eqb-true}
-use Rattle.alpha_words.proofs.Members.{covers-members}
+use Rattle.alpha_words.proofs.SetMembers.{covers-members}
 use Rattle.alpha_words.proofs.set.RegSet.covers.Goals as goal
 
 pub returns : goal.returns

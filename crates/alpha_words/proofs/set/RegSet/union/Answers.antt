@@ -1,5 +1,5 @@
 use Rattle.std.proofs.lemmas.Nat.{or_lt}
-use Rattle.alpha_words.proofs.Members.{Has-or}
+use Rattle.alpha_words.proofs.SetMembers.{Has-or}
 use Rattle.alpha_words.proofs.set.RegSet.union.Goals as goal
 
 pub invariant_of-result : goal.invariant_of-result

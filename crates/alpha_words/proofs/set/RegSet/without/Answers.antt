@@ -1,6 +1,6 @@
 use Rattle.std.proofs.Common.{◌≡◌, ◌<◌, ◌↔◌}
 use Rattle.alpha_words.specs.Regs.{Has}
-use Rattle.alpha_words.proofs.Members.{Has-and_not, Has-below}
+use Rattle.alpha_words.proofs.SetMembers.{Has-and_not, Has-below}
 use Rattle.alpha_words.proofs.set.RegSet.without.Goals as goal
 
 pub returns : goal.returns

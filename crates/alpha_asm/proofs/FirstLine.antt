@@ -1,0 +1,72 @@
+-- The first line of a source.
+use Rattle.std.proofs.Common.{◌≡◌, ℕ, zero, suc, ◌+◌, ◌<◌, ◌≤◌, List, [], ◌∷◌, ◌++◌, length, map, take, drop, get_or}
+use Rattle.std.proofs.Common.{true, false, eqb, None, Some, sym, ◌∙◌, ap, arith, eqb-true}
+use Rattle.std.specs.Str.Lines.{lines, strip_carriage_return}
+use Rattle.std.proofs.lemmas.Bool.{false_from_ne_true}
+use Rattle.memchr.specs.Find.{IsFirstByte, is_byte}
+use Rattle.alpha_asm.specs.declared.lines.Line.{Line}
+use Rattle.alpha_asm.specs.SourceLines.{IsFirst, ended, unended, line_text, source_lines}
+use Rattle.alpha_asm.proofs.SourceLines.{HasNoLineFeed, ended_prefix, unended_all, texts_of}
+
+no_feed : (s : List ℕ) (n : ℕ) → n ≤ length s → ((k : ℕ) → k < n → eqb (get_or s k 0) 10 ≡ true → ⊥)
+    → HasNoLineFeed (take n s)
+no_feed s zero h none = tt
+no_feed [] (suc n) h none = absurd (omega arith)
+no_feed (b ∷ s) (suc n) h none = (
+  false_from_ne_true (eqb b 10) (none 0 (omega arith)),
+  no_feed s n (omega arith) (λ k l. none (suc k) (omega arith)),
+)
+
+cut_there : (s : List ℕ) (n : ℕ) → n < length s → get_or s n 0 ≡ 10 → s ≡ (take n s ++ 10 ∷ []) ++ drop (suc n) s
+cut_there [] n h e = absurd (omega arith)
+cut_there (b ∷ s) zero h e = ap (λ c. c ∷ s) e
+cut_there (b ∷ s) (suc n) h e = ap (λ t. b ∷ t) (cut_there s n (omega arith) e)
+
+take_one : (s : List ℕ) (n : ℕ) → n < length s → get_or s n 0 ≡ 10 → take n s ++ 10 ∷ [] ≡ take (suc n) s
+take_one [] n h e = absurd (omega arith)
+take_one (b ∷ s) zero h e = ap (λ c. c ∷ []) (sym e)
+take_one (b ∷ s) (suc n) h e = ap (λ t. b ∷ t) (take_one s n (omega arith) e)
+
+pub first_found : (s : List ℕ) (n : ℕ) (l : Line) → IsFirstByte (is_byte 10) s (Some n)
+    → l.text.now ≡ strip_carriage_return (take n s)
+    → l.bytes.now ≡ take (n + 1) s → l.ended ≡ true → l.rest.now ≡ drop (n + 1) s → IsFirst s l
+first_found s n l h text bytes feed rest =
+    let inside : n < length s = h.0.high in
+    let one : n + 1 ≡ suc n = omega arith in
+    let ten : get_or s n 0 ≡ 10 = eqb-true (get_or s n 0) 10 h.1 in
+    let clean : HasNoLineFeed (take n s) = no_feed s n (omega arith) (λ k below. h.0.before k (omega arith) below) in
+    record {
+      line = ended (take n s);
+      is = record {
+        text = sym text;
+        bytes = take_one s n inside ten ∙ (ap (λ (m : ℕ). take m s) (sym one) ∙ sym bytes);
+        ended = sym feed;
+      };
+      lines = ap source_lines (cut_there s n inside ten)
+          ∙ (ended_prefix (take n s) (drop (suc n) s) clean
+          ∙ ap (λ t. ended (take n s) ∷ source_lines t) (ap (λ (m : ℕ). drop m s) (sym one) ∙ sym rest));
+    }
+
+all_clean : (s : List ℕ) → ((k : ℕ) → k < length s → eqb (get_or s k 0) 10 ≡ true → ⊥) → HasNoLineFeed s
+all_clean [] none = tt
+all_clean (b ∷ s) none =
+    (false_from_ne_true (eqb b 10) (none 0 (omega arith)), all_clean s (λ k l. none (suc k) (omega arith)))
+
+pub last_found : (s : List ℕ) (l : Line) → 0 < length s → IsFirstByte (is_byte 10) s None → l.text.now ≡ s
+    → l.bytes.now ≡ s → l.ended ≡ false → l.rest.now ≡ [] → IsFirst s l
+last_found [] l some h text bytes feed rest = absurd (omega arith)
+last_found (b ∷ s) l some h text bytes feed rest = record {
+  line = unended (b ∷ s);
+  is = record { text = sym text; bytes = sym bytes; ended = sym feed };
+  lines =
+      unended_all b s (all_clean (b ∷ s) (λ k below. h k (omega arith) below))
+      ∙ ap (λ t. unended (b ∷ s) ∷ source_lines t) (sym rest);
+}
+
+-- the library says the same lines
+pub first_text : (s : List ℕ) (l : Line) → IsFirst s l → lines s ≡ l.text.now ∷ lines l.rest.now
+first_text s l f =
+    texts_of s
+    ∙ (ap (map line_text) f.lines
+    ∙ (ap (λ t. t ∷ map line_text (source_lines l.rest.now)) f.is.text
+    ∙ ap (λ ls. l.text.now ∷ ls) (sym (texts_of l.rest.now))))

@@ -1,0 +1,114 @@
+-- From what a session did to what is done of an image by it.
+use Rattle.std.proofs.Common.{◌≡◌, ℕ, List, [], ◌++◌, Option, None, Some, Ok, Err, refl, sym, ap, subst, inl, arith}
+use Rattle.alpha_io.specs.declared.Failed.{Failed}
+use Rattle.alpha_io.specs.declared.shelf.Shelf as shelves
+use Rattle.alpha_io.specs.declared.source.Source as sources
+use Rattle.alpha_io.specs.declared.sink.Sink as sinks
+use Rattle.alpha_io.specs.SinkChange.{sink_change, WritesPartly}
+use Rattle.alpha_io.proofs.Sinks.{Puts-none, WritesPartly-none}
+use Rattle.alpha_pal.specs.declared.fault.Fault.TheVariants as faults
+use Rattle.alpha_pal.specs.CallEffect.{Takes}
+use Rattle.alpha_image.specs.Parts.{Parts}
+use Rattle.alpha_request.specs.declared.request.ImageCommand.TheVariants.{Debug}
+use Rattle.alpha_seq.specs.Devices.{Drawn, LeavesEnd, drawn}
+use Rattle.alpha_debug.specs.declared.end.DebugEnd.{DebugEnd}
+use Rattle.alpha_debug.specs.Script.{Transcript, IsTranscript}
+use Rattle.alpha_debug.specs.DebugEffect.{Follows, IsWhole, IsUnread, IsUnwritten}
+use Rattle.alpha_cmd.specs.declared.decision.Decision.{Decision}
+use Rattle.alpha_cmd.specs.declared.devices.Devices.{Devices}
+use Rattle.alpha_cmd.specs.Status.{status_line}
+use Rattle.alpha_cmd.specs.Outcome.{continues}
+use Rattle.alpha_cmd.specs.OfImage.Debug.{MayTell, session_status, LeavesTail, script_most, answer_told, IsEndStatus}
+use Rattle.alpha_cmd.specs.AnswerBy.{AnswerBy, status_answer, told}
+use Rattle.alpha_cmd.specs.Call.{called}
+use Rattle.alpha_cmd.specs.Decision.{answer_in, IsCutShort}
+use Rattle.alpha_cmd.specs.CommandEffect.{CommandEffect}
+use Rattle.alpha_cmd.specs.OfImage.{on}
+use Rattle.alpha_cmd.proofs.CutShort.{AttemptPrefixes}
+use Rattle.alpha_cmd.proofs.StreamedWrites.{streamed_devices, does_whole, does_cut}
+
+-- ---- the script
+
+told_by : (image : Parts) (old now : Option (List ℕ)) (taken rest : List ℕ) (t : Transcript) → Takes old now taken rest
+    → IsTranscript image (taken ++ rest) t → MayTell old image t
+told_by image None now taken rest t took is = (taken ++ rest, is)
+told_by image (Some script) now taken rest t took is =
+    subst (λ (bytes : List ℕ). IsTranscript image bytes t) (sym took.0) is
+
+pub may_tell : (image : Parts) (d : Drawn) (t : Transcript) → Follows image d t → MayTell d.old.left image t
+may_tell image d t follows = told_by image d.old.left d.new.left follows.taken follows.rest t follows.took follows.is
+
+pub Follows-LeavesTail : (image : Parts) (d : Drawn) (t : Transcript) → Follows image d t
+    → LeavesTail script_most d.old.left d.new.left
+Follows-LeavesTail image d t follows =
+    record { taken = follows.taken; rest = follows.rest; took = follows.took; bound = follows.most }
+
+-- so an end of the script is left
+tail_end : (d : Drawn) → LeavesTail script_most d.old.left d.new.left → LeavesEnd d
+tail_end d tail = λ bytes tells.
+    let took = subst (λ (old : Option (List ℕ)). Takes old d.new.left tail.taken tail.rest) tells tail.took in
+    (tail.taken, tail.rest, took.0, took.1)
+
+took_none : (left : Option (List ℕ)) → LeavesTail script_most left left
+took_none None = record { taken = []; rest = []; took = tt; bound = omega arith }
+took_none (Some bytes) = record { taken = []; rest = bytes; took = (refl, refl); bound = omega arith }
+
+-- an input of which nothing was taken
+pub tail_same : (old new : Option (List ℕ)) → new ≡ old → LeavesTail script_most old new
+tail_same old new same = subst (λ (left : Option (List ℕ)). LeavesTail script_most old left) (sym same) (took_none old)
+
+-- ---- what is done of an image by a session
+
+module _ {H S K N : Type 0} (h : shelves.Ghosts H) (s : sources.Ghosts S) (k : sinks.Ghosts K) (n : sinks.Ghosts N)
+    (old : Devices H S K N) (input : S) (out : K) (image : Parts) where
+  abbrev new : Devices H S K N
+  new = streamed_devices h s k n old input out old.notes
+
+  rest : (t : Transcript) → Follows image (drawn s old.input input) t → LeavesEnd (drawn s old.input input)
+  rest t follows = tail_end (drawn s old.input input) (Follows-LeavesTail image (drawn s old.input input) t follows)
+
+  -- its transcript is an answer
+  answers : (t : Transcript) → Follows image (drawn s old.input input) t
+      → AnswerBy (on Debug image).steps (told (called h s k n old new)) (answer_told t)
+  answers t follows = (continues (answer_told t), (t, may_tell image (drawn s old.input input) t follows, refl), refl)
+
+  -- a front of it was written
+  session_prefixes : (t : Transcript) → Follows image (drawn s old.input input) t
+      → WritesPartly (sink_change k old.out out) t.text
+      → AttemptPrefixes (on Debug image) (told (called h s k n old new)) (sink_change k old.out out)
+      (sink_change n old.notes old.notes)
+  session_prefixes t follows part = record {
+    answer = answer_told t;
+    kept = inl refl;
+    is = answers t follows;
+    bytes = part.prefix;
+    lines = (WritesPartly-none (n.written old.notes) (n.faults old.notes) []).prefix;
+  }
+
+  pub session_whole : (end : DebugEnd) (d : Decision) → IsEndStatus (session_status end)
+      → ((left : Option (List ℕ))
+      → answer_in left d ≡ status_answer left (session_status end) (status_line (session_status end)))
+      → IsWhole end image (drawn s old.input input) (sink_change k old.out out)
+      → CommandEffect h s k n (on Debug image) (Ok d) old new
+  session_whole end d ends says did =
+      does_whole h s k n old input out old.notes (on Debug image) d (answer_told did.told) (session_status end)
+      (status_line (session_status end))
+      (answers did.told did.follows) says (ap session_status (sym did.end_is))
+      (ap (λ e. status_line (session_status e)) (sym did.end_is))
+      did.wrote (Puts-none (n.written old.notes) (n.faults old.notes)) tt refl (refl, inl ends) did.same
+      (rest did.told did.follows)
+
+  pub session_unread : (d : Decision) → IsCutShort faults.Input (Ok d)
+      → IsUnread image (drawn s old.input input) (sink_change k old.out out)
+      → CommandEffect h s k n (on Debug image) (Ok d) old new
+  session_unread d says did =
+      does_cut h s k n old input out old.notes (on Debug image) faults.Input (Ok d) refl
+      (session_prefixes did.told did.follows did.part) says
+      (record { later = did.later; source = did.cause; sink = did.same; lines = refl }) (rest did.told did.follows)
+
+  pub session_unwritten : (e : Failed) → IsUnwritten image (drawn s old.input input) (sink_change k old.out out)
+      → CommandEffect h s k n (on Debug image) (Err e) old new
+  session_unwritten e did =
+      does_cut h s k n old input out old.notes (on Debug image) faults.Output (Err e) refl
+      (session_prefixes did.told did.follows did.part) tt
+      (record { source = did.same; later = did.part.later; sink = did.cause; lines = refl }) (rest did.told did.follows)

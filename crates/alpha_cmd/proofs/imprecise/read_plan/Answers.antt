@@ -1,0 +1,31 @@
+use Rattle.std.proofs.lemmas.Result.{err_from_is_err_and}
+use Rattle.alpha_request.specs.Options.{origin_of}
+use Rattle.alpha_cmd.specs.Chooser.{ahead_in}
+use Rattle.alpha_cmd.specs.Choosing.{ChoicesOf}
+use Rattle.alpha_cmd.specs.Commands.Imprecise.{plan_by}
+use Rattle.alpha_cmd.specs.Image.{ImageOf}
+use Rattle.alpha_cmd.specs.Outcome.{Gives}
+use Rattle.alpha_cmd.proofs.AfterRead.{second_stops}
+use Rattle.alpha_cmd.proofs.imprecise.read_plan.Goals as goal
+
+pub returns-in_err-chooser-clause-stage : goal.returns-in_err-chooser-clause-stage
+returns-in_err-chooser-clause-stage g c =
+    let p = err_from_is_err_and c.from_residual-in_err-chooser.result c.from_residual-in_err-chooser.ensures.1 in
+    rw (p.1, p.2)
+    (second_stops g.H.Shelf c.args.shelf.now c.load.new.shelf c.chooser_of.new.shelf
+    (λ files. ImageOf files c.args.file.now) (λ files. ChoicesOf files (origin_of c.args.choices.now))
+    (λ image ahead. Gives (plan_by image ahead)) (λ plan. plan_by plan.image (ahead_in plan.chooser))
+    c.in_ok-image.image c.in_err-chooser.field-0.0 _ (λ e. cc) c.in_ok-image.ensures.stage.ok
+    c.in_ok-image.ensures.stage.shelf c.in_err-chooser.ensures.stage)
+
+pub returns-clause-read : goal.returns-clause-read
+returns-clause-read g c = λ n seeds.
+    (c.in_ok-image.ensures.read.0, rw (c.in_ok-chooser.ensures.seeded n seeds) c.in_ok-image.ensures.read.1)
+
+pub returns-in_err-image-clause-whole : goal.returns-in_err-image-clause-whole
+returns-in_err-image-clause-whole g c = λ n image seeds good read.
+    let p = err_from_is_err_and c.from_residual.result c.from_residual.ensures.1 in
+    rw (p.1, p.2) (c.in_err-image.ensures.whole image good read)
+
+pub returns-in_err-chooser-clause-whole : goal.returns-in_err-chooser-clause-whole
+returns-in_err-chooser-clause-whole g c = λ n image seeds good read. absurd (c.in_err-chooser.ensures.sure n seeds)

@@ -1,0 +1,46 @@
+use Rattle.std.proofs.Common.{◌∙◌, ◌++◌, ◌∷◌, [], true, ap}
+use Rattle.alpha_io.specs.History.{Kept}
+use Rattle.alpha_cmd.specs.Form.{keeps_last, needs_files}
+use Rattle.alpha_cmd.specs.Keeping.{KeepsAs}
+use Rattle.alpha_cmd.specs.SourceCommands.{MakesOfSource}
+use Rattle.alpha_cmd.proofs.AfterRead.{does_stop}
+use Rattle.alpha_cmd.proofs.StageEffects.{does_make}
+use Rattle.alpha_cmd.proofs.SourceCommands.{makes_plain}
+use Rattle.alpha_cmd.proofs.Stages.{stopped_undone}
+use Rattle.alpha_cmd.proofs.source_commands.make.Goals as goal
+
+pub returns-in-Ok-clause-does : goal.returns-in-Ok-clause-does
+returns-in-Ok-clause-does g c =
+    does_make g.H.Shelf g.S.Source g.K.Sink g.N.Sink c.args.devices.now c.bytes_of_source.new.shelf c.keep_as.new.shelf
+    (λ w. MakesOfSource c.args.command w.files c.args.file.now)
+    c.args.out.now c.in-Ok.bytes.items c.as_slice.result.now c.keep_as.result _
+    (λ e. cc) c.in-Ok.ensures.stage.ok c.in-Ok.ensures.stage.shelf c.as_slice.ensures.value
+    c.keep_as.ensures.tried c.keep_as.ensures.shelf c.keep_as.ensures.files
+
+pub returns-in-Ok-clause-kept : goal.returns-in-Ok-clause-kept
+returns-in-Ok-clause-kept g c = λ done.
+    let (source, read, made) = c.in-Ok.ensures.read in
+    let middle = g.H.Shelf.replies c.bytes_of_source.new.shelf in
+    record {
+      middle = middle;
+      source = source;
+      bytes = c.in-Ok.bytes.items;
+      read = read;
+      made = made;
+      kept =
+          c.keep_as.ensures.kept done
+          ∙ ap (λ bytes. middle ++ Kept c.args.out.now bytes true ∷ []) c.as_slice.ensures.value;
+    }
+
+pub returns-in-Err-clause-does : goal.returns-in-Err-clause-does
+returns-in-Err-clause-does g c =
+    does_stop g.H.Shelf g.S.Source g.K.Sink g.N.Sink c.args.devices.now c.bytes_of_source.new.shelf
+    (λ files. MakesOfSource c.args.command files c.args.file.now) (λ w. KeepsAs w c.args.out.now)
+    needs_files (keeps_last c.args.out.now) c.stopped.result c.in-Err.stop c.stopped.ensures c.in-Err.ensures.stage
+
+pub returns-in-Err-clause-kept : goal.returns-in-Err-clause-kept
+returns-in-Err-clause-kept g c = λ done.
+    let files = g.H.Shelf.files c.args.devices.now.shelf in
+    absurd (stopped_undone (MakesOfSource c.args.command files c.args.file.now) _
+    (makes_plain c.args.command files c.args.file.now) c.in-Err.stop c.stopped.result c.stopped.ensures
+    c.in-Err.ensures.stage.refused done)

@@ -1,0 +1,37 @@
+use Rattle.std.proofs.Common.{ℕ, List, [], subst}
+use Rattle.alpha_debug.specs.OutputChange.{output_change}
+use Rattle.alpha_debug.specs.Effects.{FeedsBytes}
+use Rattle.alpha_debug.proofs.Sinks.{session_OnErr-any}
+use Rattle.alpha_debug.proofs.Pieces.{FeedsBytes-put, FeedsBytes-stopped}
+use Rattle.alpha_debug.proofs.transcript.feed_piece.Goals as goal
+
+pub returns-in_err-flush-clause-refused : goal.returns-in_err-flush-clause-refused
+returns-in_err-flush-clause-refused g c = λ begun is_held.
+    let bytes = c.args.bytes.now in
+    let talk = c.in_ok-talk.talk in
+    let old = c.args.debugger.now in
+    let new = c.feed.new in
+    let hears : FeedsBytes bytes begun talk old new.debugger new.pending.items
+    (output_change g.K.Sink c.args.out.now [] new.out new.debugger.watcher.block) =
+    subst (λ (l : List ℕ). FeedsBytes bytes begun talk old new.debugger new.pending.items
+    (output_change g.K.Sink c.args.out.now l new.out new.debugger.watcher.block))
+    c.requires.block (c.in_ok-talk.ensures.ok begun is_held) in
+    session_OnErr-any c.from_residual-in_err-flush.result
+    (FeedsBytes-stopped g.K.Sink c.args.out.now new.out c.flush.new.out new.debugger.watcher.block c.flush.new.self
+    bytes
+    begun talk old new.debugger new.pending.items hears c.in_err-flush.ensures.refused)
+
+pub returns-clause-ok : goal.returns-clause-ok
+returns-clause-ok g c = λ begun is_held.
+    let bytes = c.args.bytes.now in
+    let talk = c.in_ok-talk.talk in
+    let old = c.args.debugger.now in
+    let new = c.feed.new in
+    let hears : FeedsBytes bytes begun talk old new.debugger new.pending.items
+    (output_change g.K.Sink c.args.out.now [] new.out new.debugger.watcher.block) =
+    subst (λ (l : List ℕ). FeedsBytes bytes begun talk old new.debugger new.pending.items
+    (output_change g.K.Sink c.args.out.now l new.out new.debugger.watcher.block))
+    c.requires.block (c.in_ok-talk.ensures.ok begun is_held) in
+    FeedsBytes-put g.K.Sink c.args.out.now new.out c.flush.new.out new.debugger.watcher.block c.flush.new.self bytes
+    begun
+    talk old new.debugger new.pending.items hears c.in_ok-flush.ensures.ok

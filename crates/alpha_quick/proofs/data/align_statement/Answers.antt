@@ -1,0 +1,14 @@
+use Rattle.std.proofs.Common.{◌≡◌, Some, sym}
+use Rattle.alpha_operands.specs.declared.number.Number.TheVariants as numbers
+use Rattle.alpha_operands.specs.declared.number.Sign.TheVariants as signs
+use Rattle.alpha_operands.specs.declared.piece.Piece.TheVariants as pieces
+use Rattle.alpha_operands.specs.Ranges.{number_of}
+use Rattle.alpha_quick.proofs.Directives.{says_align}
+use Rattle.alpha_quick.proofs.data.align_statement.Goals as goal
+
+pub returns-then-is_end : goal.returns-then-is_end
+returns-then-is_end c =
+    let is : number_of pieces.Align signs.Plus c.in_ok-n.n ≡ Some (numbers.Align c.in-Some-Align.n) =
+    sym (rw c.in-Some-Align.field-0-is at c.in-Some-Align.ensures) in
+    says_align c.args.text.now c.args.words.now c.in_ok-n.rest.now c.in_ok-n.n c.in-Some-Align.n c.requires
+    c.in_ok-n.ensures is (c.is_end.ensures c.if-is_end.true)

@@ -1,5 +1,0 @@
-use Rattle.std.proofs.Common.{refl}
-use Rattle.alpha_quick.proofs.reach.turned.Goals as goal
-
-pub returns : goal.returns
-returns c = (c.in_ok-target.target.label.now, c.in_ok-target.target.offset, c.in_ok-target.ensures, refl)

@@ -1,0 +1,7 @@
+use Rattle.std.proofs.Common.{◌∙◌, ap, sym}
+use Rattle.alpha_token.specs.Tokens.{tokens}
+use Rattle.alpha_token.proofs.TokenSuffixes.{tokens-blanks}
+use Rattle.alpha_quick.proofs.words.without_any_blanks.Goals as goal
+
+pub returns : goal.returns
+returns c = tokens-blanks c.args.s.now ∙ ap tokens (sym c.without_blanks.ensures.value)

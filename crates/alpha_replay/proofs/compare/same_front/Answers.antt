@@ -1,6 +1,0 @@
-use Rattle.alpha_replay.proofs.Comparing.{no_byte}
-use Rattle.alpha_replay.proofs.compare.same_front.Goals as goal
-
-pub returns-then-expected-count-clause-other : goal.returns-then-expected-count-clause-other
-returns-then-expected-count-clause-other c = λ less n more.
-    no_byte c.args.bytes.now c.args.expected.now c.loop-count.count less c.if-expected-count.true n more

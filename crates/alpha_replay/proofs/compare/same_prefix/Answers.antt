@@ -1,0 +1,6 @@
+use Rattle.alpha_replay.proofs.OutputComparison.{no_byte}
+use Rattle.alpha_replay.proofs.compare.same_prefix.Goals as goal
+
+pub returns-then-expected-count-clause-other : goal.returns-then-expected-count-clause-other
+returns-then-expected-count-clause-other c = λ less n more.
+    no_byte c.args.bytes.now c.args.expected.now c.loop-count.count less c.if-expected-count.true n more
