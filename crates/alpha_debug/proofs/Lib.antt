@@ -10,4 +10,6 @@ mod Scripts
 mod Pieces
 mod ScriptUnderway
 mod SessionStart
+mod HandedLines
+mod HandedSessions
 pub mod Transcripts

@@ -4,7 +4,8 @@ use Rattle.std.proofs.Common.{◌≡◌, ◌∙◌, ℕ, suc, ◌+◌, ◌-◌, 
 use Rattle.std.proofs.Common.{◌++◌, length, take, All, refl, sym, ap, append_assoc, append-nil, ⊎_elim, arith}
 use Rattle.std.proofs.lemmas.Bool.Decides.{nat_tests}
 use Rattle.std.proofs.lemmas.Bool.{cases_lt, ne_eqb}
-use Rattle.std.proofs.lemmas.List.{length-take, take_all}
+use Rattle.std.proofs.lemmas.List.{length-append, length-take, take_all}
+use Rattle.std.proofs.Math.Seq.{take-append_seam}
 use Rattle.std.specs.Str.Lines.{lines_of_parts, strip_carriage_return}
 use Rattle.std.proofs.lemmas.List.Splits.{slice_split_at, slice_split_none, length-slice_split}
 use Rattle.alpha_debug.specs.declared.command.Command.TheVariants.{Unknown}
@@ -39,6 +40,9 @@ lt-some b = grind (arith, nat_tests)
 
 lt-above : (a b : ℕ) → a < b → nat_lt a b ≡ true
 lt-above a b l = grind (arith, nat_tests)
+
+le-above : (a b : ℕ) → b < a → nat_le a b ≡ false
+le-above a b l = grind (arith, nat_tests)
 
 -- ---- lines
 
@@ -75,7 +79,7 @@ cond-cons true x xs ys = refl
 cond-cons false x xs ys = refl
 
 -- a byte more of the line in hand
-within-other : (n b : ℕ) (begun rest : List ℕ)
+pub within-other : (n b : ℕ) (begun rest : List ℕ)
     → lines_within (suc n) begun (b ∷ rest) ≡ lines_within n (begun ++ b ∷ []) rest
 within-other n b begun rest =
     let joined : (s : List ℕ) → begun ++ b ∷ s ≡ (begun ++ b ∷ []) ++ s =
@@ -88,7 +92,7 @@ within-other n b begun rest =
     (joined (take n rest)))
 
 -- a line feed, which ends it
-within-feed : (n : ℕ) (begun rest : List ℕ) → LineHasNoFeed begun
+pub within-feed : (n : ℕ) (begun rest : List ℕ) → LineHasNoFeed begun
     → lines_within (suc n) begun (10 ∷ rest) ≡ strip_carriage_return begun ∷ lines_within n [] rest
 within-feed n begun rest line =
     ap (λ (t : Bool). cond t (all_lines (begun ++ 10 ∷ rest)) (ended_parts (parts (begun ++ 10 ∷ take n rest))))
@@ -104,18 +108,30 @@ one-part : (begun : List ℕ) → LineHasNoFeed begun → parts (begun ++ []) �
 one-part begun line = ap parts (append-nil begun) ∙ slice_split_none (λ b. b == 10) begun line
 
 -- the end of the script
-within-end : (n : ℕ) (begun : List ℕ) → LineHasNoFeed begun
+pub within-end : (n : ℕ) (begun : List ℕ) → LineHasNoFeed begun
     → lines_within n begun [] ≡ cond (length begun == 0) [] (begun ∷ [])
 within-end n begun line =
     ap (λ (t : Bool). cond t (all_lines (begun ++ [])) (ended_parts (parts (begun ++ take n [])))) (le-zero n)
     ∙ ap lines_of_parts (one-part begun line)
 
 -- a byte behind those that count
-within-over : (b : ℕ) (begun rest : List ℕ) → LineHasNoFeed begun → lines_within 0 begun (b ∷ rest) ≡ []
+pub within-over : (b : ℕ) (begun rest : List ℕ) → LineHasNoFeed begun → lines_within 0 begun (b ∷ rest) ≡ []
 within-over b begun rest line =
     ap (λ (t : Bool). cond t (all_lines (begun ++ b ∷ rest)) (ended_parts (parts (begun ++ []))))
     (le-none (length rest))
     ∙ ap ended_parts (one-part begun line)
+
+-- the lines that end within bytes behind which there are more
+pub within-taken : (taken : List ℕ) (b : ℕ)
+    → lines_within (length taken + 0) [] (taken ++ b ∷ []) ≡ ended_parts (parts taken)
+within-taken taken b =
+    let n : ℕ = length taken in
+    let all : n + 0 ≡ n = omega arith in
+    let script : List ℕ = taken ++ b ∷ [] in
+    ap (λ (m : ℕ). lines_within m [] script) all
+    ∙ (ap (λ (t : Bool). cond t (all_lines script) (ended_parts (parts (take n script))))
+    (le-above (length script) n (omega (arith, length-append taken (b ∷ []))))
+    ∙ ap (λ (l : List ℕ). ended_parts (parts l)) (take-append_seam taken (b ∷ [])))
 
 -- ---- the transcript
 
@@ -184,14 +200,14 @@ pub told-over : (g : Setting) (n : ℕ) (rest : List ℕ) (lines : List (List �
     → closed n rest (answers g s lines) ≡ record { text = text_of s; end = Done }
 told-over g n rest lines s e = ap (closed n rest) (answers-over g s lines e) ∙ closed-over n rest s e
 
-some : (b : ℕ) (line : List ℕ) → (length (b ∷ line) == 0) ≡ false
-some b line = ne_eqb (length (b ∷ line)) 0 (λ e. omega arith)
+pub some-bytes : (b : ℕ) (line : List ℕ) → (length (b ∷ line) == 0) ≡ false
+some-bytes b line = ne_eqb (length (b ∷ line)) 0 (λ e. omega arith)
 
 end-by : (g : Setting) (s : Session) (line : List ℕ) → s.over ≡ false
     → text_of (answers g s (cond (length line == 0) [] (line ∷ []))) ≡ text_of (answer g (command_of line) s)
 end-by g s [] e = refl
 end-by g s (b ∷ line) e =
-    ap (λ (t : Bool). text_of (answers g s (cond t [] ((b ∷ line) ∷ [])))) (some b line)
+    ap (λ (t : Bool). text_of (answers g s (cond t [] ((b ∷ line) ∷ [])))) (some-bytes b line)
     ∙ ap (λ (o : Bool). text_of (cond o s (answer g (command_of (b ∷ line)) s))) e
 
 -- the end of the script: what stands behind its last line feed is answered

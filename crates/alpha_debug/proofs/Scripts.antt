@@ -47,7 +47,7 @@ after-feed Quits old new text n rest same =
     told-over (setting_of old) n rest (lines_within n [] rest) (left_by Quits new text) refl
 
 -- the line that is handed on is answered as the line in hand
-line-command : (begun held line : List ℕ) → IsPendingLine begun held → line ≡ strip_carriage_return held
+pub line-command : (begun held line : List ℕ) → IsPendingLine begun held → line ≡ strip_carriage_return held
     → command_of line ≡ command_of (strip_carriage_return begun)
 line-command begun held line is_held e =
     ap command_of e ∙ (ap (λ (l : List ℕ). command_of (strip_carriage_return l)) is_held.front ∙ held-line begun)
@@ -94,6 +94,11 @@ line_feed-FeedFails begun held line old out is_held e fails text most rest l =
 all-one : (b : ℕ) → (b == 10) ≡ false → LineHasNoFeed (b ∷ [])
 all-one b other = All-cons (λ x. (x == 10) ≡ false) b [] other (λ k d l. absurd (omega arith))
 
+pub held_other : (b : ℕ) (begun held : List ℕ) → (b == 10) ≡ false → LineHasNoFeed begun
+    → held ≡ take 1026 (begun ++ b ∷ []) → IsPendingLine (begun ++ b ∷ []) held
+held_other b begun held other line front =
+    record { front = front; line = All-append (λ x. (x == 10) ≡ false) begun (b ∷ []) line (all-one b other) }
+
 pub FeedsBytes-other_byte : (b : ℕ) (begun held : List ℕ) (d : Debugger) (out : OutputChange) → (b == 10) ≡ false
     → LineHasNoFeed begun → held ≡ take 1026 (begun ++ b ∷ []) → AppendsOutput out []
     → FeedsBytes (b ∷ []) begun Continues d d held out
@@ -101,8 +106,7 @@ FeedsBytes-other_byte b begun held d out other line front none = record {
   put = [];
   line = begun ++ b ∷ [];
   wrote = none;
-  pending_is =
-      record { front = front; line = All-append (λ x. (x == 10) ≡ false) begun (b ∷ []) line (all-one b other) };
+  pending_is = held_other b begun held other line front;
   is = λ text most rest l.
       let n : ℕ = most - 1 in
       let next : most ≡ suc n = omega arith in

@@ -1,7 +1,7 @@
 -- What commands do to a session, one after another.
 use Rattle.std.specs.Prelude.{◌==◌}
 use Rattle.std.proofs.Common.{◌≡◌, ◌∙◌, ℕ, codes, length, Bool, true, false, cond, List, [], ◌∷◌, ◌++◌, Option, Some}
-use Rattle.std.proofs.Common.{None, refl, ap, append_assoc}
+use Rattle.std.proofs.Common.{None, ◌⊎◌, inl, inr, refl, sym, ap, subst, append_assoc, append-nil}
 use Rattle.alpha_seq.specs.declared.end.End.{End}
 use Rattle.alpha_seq.specs.declared.machine.Machine.{Machine}
 use Rattle.alpha_seq.specs.State.{State}
@@ -25,7 +25,7 @@ use Rattle.alpha_debug.specs.Session.{if_not_ended}
 use Rattle.alpha_debug.specs.Session.{with_where_line, continue_until, has_point, most_points, ok, is_shown, shown}
 use Rattle.alpha_debug.specs.Session.{answer}
 use Rattle.alpha_debug.specs.OutputChange.{output_change_by, AppendsOutput, SinkFailsWith}
-use Rattle.alpha_debug.specs.Effects.{Grows, session_of, with_block, IsOpened, SessionEffect, Fails}
+use Rattle.alpha_debug.specs.Effects.{Grows, session_of, with_block, IsOpened, SessionEffect, Fails, IsQuiet}
 use Rattle.alpha_debug.proofs.Sinks.{Grows-same, Grows-by, Grows-trans, FailsBehind-after, AppendsOutput-both}
 use Rattle.alpha_debug.proofs.Steps.{step_until-grows}
 
@@ -96,6 +96,29 @@ module _ {K : Type 0} (written : K → Option (List ℕ)) (faults : K → ℕ) (
         stops = stops;
       })
 
+  -- what waits was put
+  pub then_put : SessionEffect becomes old new (output_change_by written faults o p)
+      → AppendsOutput (output_change_by written faults p q) []
+      → SessionEffect becomes old (with_block new q.1) (output_change_by written faults o q)
+  then_put makes wrote = record {
+    bytes = makes.bytes;
+    wrote =
+        subst (AppendsOutput (output_change_by written faults o q)) (append-nil makes.bytes)
+        (AppendsOutput-both written faults o p q makes.bytes [] makes.wrote wrote);
+    is = makes.is;
+  }
+
+  pub then_fails : SessionEffect becomes old new (output_change_by written faults o p)
+      → SinkFailsWith (output_change_by written faults p q) [] → Fails becomes old (output_change_by written faults o q)
+  then_fails makes stops text =
+      FailsBehind-after written faults o p q makes.bytes text
+      (text_of (becomes (session_of old text))) makes.wrote
+      (record {
+        bytes = [];
+        is = ap text_of (makes.is text) ∙ sym (append-nil (text ++ makes.bytes));
+        stops = stops;
+      })
+
 -- ---- commands
 
 answer-shown : (g : Setting) (command : Command) (s : Session) → is_shown command ≡ true
@@ -114,6 +137,14 @@ answer-shown g Shadow s e = refl
 answer-shown g Log s e = refl
 answer-shown g Unknown s e = refl
 
+-- ---- what is put of it
+
+-- where nothing was seen put, the program puts nothing, and else nothing waits
+pub hands : (has : Bool) (becomes : Session → Session) (old : Debugger) (waits : List ℕ)
+    → (has ≡ false → IsQuiet becomes old) → (has ≡ true → waits ≡ []) → IsQuiet becomes old ⊎ (waits ≡ [])
+hands true becomes old waits quiet empty = inr (empty refl)
+hands false becomes old waits quiet empty = inl (quiet refl)
+
 -- ---- the start
 
 pub IsOpened-made : (image : Parts) (machine : Machine) (points : ArrayVec ℕ) (block : List ℕ) (verdict : Option Broken)
@@ -123,7 +154,7 @@ pub IsOpened-made : (image : Parts) (machine : Machine) (points : ArrayVec ℕ) 
     → IsOpened image (record {
       machine = machine;
       verdict = verdict;
-      watcher = record { until = until.Spent; points = points; block = block };
+      watcher = record { until = until.Spent; points = points; block = block; has_put = false };
       end = None;
     })
 IsOpened-made image machine points block verdict empty program starts kernel none verdict_is = record {

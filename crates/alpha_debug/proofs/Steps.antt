@@ -28,8 +28,8 @@ use Rattle.alpha_debug.specs.declared.watcher.Watcher.{Watcher}
 use Rattle.alpha_debug.specs.Session.{is_barrier, is_reached, is_last, StepsResult, step_until}
 use Rattle.alpha_debug.specs.OutputChange.{OutputChange}
 use Rattle.alpha_debug.specs.Watched.{was_barrier, end_by, watched_lines, watched_after, watched_stops, watches}
-use Rattle.alpha_debug.specs.Effects.{Grows, FailsBehind, StepsUntil, StepUntilFails}
-use Rattle.alpha_debug.proofs.WatchedSteps.{row-bytes, seen-kept}
+use Rattle.alpha_debug.specs.Effects.{Grows, FailsBehind, StepsUntil, StepUntilFails, PutsNothing}
+use Rattle.alpha_debug.proofs.WatchedSteps.{row-bytes, row-quiet, seen-kept}
 use Rattle.alpha_debug.proofs.Sinks.{Grows-same, Grows-trans, FailsBehind-more}
 
 -- ---- one step
@@ -221,8 +221,10 @@ watched_by s old new = record { sink = s; old = old.block; new = new.block }
 
 module _ (w v : Watcher) (most left : ℕ) (old new : Machine) (before after : Oracle) (input : Drawn)
     (out notes : SinkChange) (empty : input.old.left ≡ Some []) where
-  kept : (ps : List StepLabel) → v ≡ seen_by watched_after w ps → v ≡ record w { block = v.block }
-  kept ps seen = seen ∙ (seen-kept w ps ∙ ap (λ (u : Watcher). record w { block = u.block }) (sym seen))
+  kept : (ps : List StepLabel) → v ≡ seen_by watched_after w ps
+      → v ≡ record w { block = v.block; has_put = v.has_put }
+  kept ps seen =
+      seen ∙ (seen-kept w ps ∙ ap (λ (u : Watcher). record w { block = u.block; has_put = u.has_put }) (sym seen))
 
   -- all steps were made
   walked-all : RunsTo None SeqStep one_unit watches most left old new w v before after input out notes
@@ -299,10 +301,30 @@ module _ (w v : Watcher) (most left : ℕ) (old new : Machine) (before after : O
   RunsTo-StepsUntil None ran = walked-all ran
   RunsTo-StepsUntil (Some event) ran = walked-last event ran
 
-  -- the watcher is as before but for what waits
+  -- where it saw nothing put, the program puts nothing
+  pub walked-quiet : (last : Option SeenEvent)
+      → RunsTo last SeqStep one_unit watches most left old new w v before after input out notes → v.has_put ≡ false
+      → PutsNothing w.until w.points.items most old
+  unfolding walked-all walked-last
+  walked-quiet None ran quiet text =
+      let one = ran.1 in
+      let none : output (events_of one.labels) ≡ [] =
+      row-quiet w one.labels old new one.row (sym (ap (λ (u : Watcher). u.has_put) one.effect.seen) ∙ quiet) in
+      ap (λ (t : StepsResult). t.text) ((walked-all ran).is text)
+      ∙ (ap (λ (l : List ℕ). text ++ l) none ∙ append-nil text)
+  walked-quiet (Some event) one quiet text =
+      let qs = one.labels ++ one.label ∷ [] in
+      let row : Row SeqStep old qs new =
+      Row-append SeqStep one.labels (one.label ∷ []) old one.mid new one.row (new, one.is, refl) in
+      let none : output (events_of qs) ≡ [] =
+      row-quiet w qs old new row (sym (ap (λ (u : Watcher). u.has_put) one.effect.seen) ∙ quiet) in
+      ap (λ (t : StepsResult). t.text) ((walked-last event one).is text)
+      ∙ (ap (λ (l : List ℕ). text ++ l) none ∙ append-nil text)
+
+  -- the watcher is as before but for what waits and whether the program has put something
   pub walked-kept : (last : Option SeenEvent)
       → RunsTo last SeqStep one_unit watches most left old new w v before after input out notes
-      → v ≡ record w { block = v.block }
+      → v ≡ record w { block = v.block; has_put = v.has_put }
   walked-kept None ran = kept ran.1.labels ran.1.effect.seen
   walked-kept (Some event) ran = kept (ran.labels ++ ran.label ∷ []) ran.effect.seen
 

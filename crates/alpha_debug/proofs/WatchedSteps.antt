@@ -1,8 +1,8 @@
 -- What the watcher of a walk makes of its steps.
 use Rattle.std.specs.Prelude.{◌==◌}
 use Rattle.std.proofs.lemmas.Bool.{ne_eqb}
-use Rattle.std.proofs.Common.{◌≡◌, ◌∙◌, ◌≤◌, ◌⊎◌, inl, inr, ⊎_elim, ℕ, Bool, true, false, cond, List, [], ◌∷◌, ◌++◌}
-use Rattle.std.proofs.Common.{length, refl, sym, ap, subst, append-nil, arith}
+use Rattle.std.proofs.Common.{◌≡◌, ◌∙◌, ◌≤◌, ◌⊎◌, ◌||◌, inl, inr, ⊎_elim, ℕ, Bool, true, false, cond, List, [], ◌∷◌}
+use Rattle.std.proofs.Common.{◌++◌, length, refl, sym, ap, subst, append-nil, arith}
 use Rattle.alpha_mem.specs.Block.{Block, shapes, within}
 use Rattle.alpha_mem.specs.Intent.{Load}
 use Rattle.alpha_mem.specs.Memory.{bytes_at}
@@ -21,8 +21,8 @@ use Rattle.alpha_debug.specs.declared.watcher.Until.TheVariants as until
 use Rattle.alpha_debug.specs.declared.watcher.Watcher.{Watcher}
 use Rattle.alpha_debug.specs.Session.{is_reached}
 use Rattle.alpha_debug.specs.OutputChange.{put_for, waits_for}
-use Rattle.alpha_debug.specs.Watched.{put_behind, waits_behind, watched_lines, watched_after, watched_stops, all_steps}
-use Rattle.alpha_debug.specs.Watched.{room_for, watched_room, watches}
+use Rattle.alpha_debug.specs.Watched.{was_put, put_behind, waits_behind, watched_lines, watched_after, watched_stops}
+use Rattle.alpha_debug.specs.Watched.{all_steps, room_for, watched_room, watches}
 use Rattle.alpha_debug.proofs.Sinks.{both-whole}
 use Rattle.alpha_debug.proofs.BlockContents.{all_for}
 
@@ -65,11 +65,60 @@ row-bytes w (p ∷ ps) old new row =
     (passed-all w.block p.event p.core.memory (taken p.seen) (output p.seen) row.1.passes)
     (row-bytes v ps row.0 new row.2)
 
--- it is as before but for what waits
+-- it is as before but for what waits and whether the program has put something
 pub seen-kept : (w : Watcher) (ps : List StepLabel)
-    → seen_by watched_after w ps ≡ record w { block = (seen_by watched_after w ps).block }
+    → seen_by watched_after w ps
+    ≡ record w {
+      block = (seen_by watched_after w ps).block;
+      has_put = (seen_by watched_after w ps).has_put;
+    }
 seen-kept w [] = refl
 seen-kept w (p ∷ ps) = seen-kept (watched_after w p.event p.core) ps
+
+-- ---- whether the program has put something
+
+-- a step that put nothing
+unput : (event : SeenEvent) (mem : List Block) (taken bytes : List ℕ) → HasPassed event mem taken bytes
+    → was_put event ≡ false → bytes ≡ []
+unput events.Went mem taken bytes h none = h.1
+unput (events.Barrier passes.Nothing) mem taken bytes h none = h.1
+unput (events.Barrier (passes.Took addr len)) mem taken bytes h none = h.2
+unput (events.Barrier (passes.Put addr len)) mem taken bytes h none = absurd cc
+unput (events.Overflowed at) mem taken bytes h none = h.1
+unput event mem taken bytes h none = h.1
+
+or-true : (b : Bool) → (b || true) ≡ true
+or-true true = refl
+or-true false = refl
+
+-- what was put stays put
+stays-put : (w : Watcher) (ps : List StepLabel) → w.has_put ≡ true → (seen_by watched_after w ps).has_put ≡ true
+stays-put w [] e = e
+stays-put w (p ∷ ps) e =
+    stays-put (watched_after w p.event p.core) ps
+    (ap (λ (b : Bool). was_put p.event || b) e ∙ or-true (was_put p.event))
+
+unput-by : (b : Bool) (v : Watcher) (ps : List StepLabel) → v.has_put ≡ b
+    → (seen_by watched_after v ps).has_put ≡ false → b ≡ false
+unput-by true v ps e none = absurd (let late = stays-put v ps e in cc)
+unput-by false v ps e none = refl
+
+or-none : (a b : Bool) → (a || b) ≡ false → a ≡ false
+or-none true b e = absurd cc
+or-none false b e = refl
+
+-- steps in a row that put nothing
+pub row-quiet : (w : Watcher) (ps : List StepLabel) (old new : Machine) → Row SeqStep old ps new
+    → (seen_by watched_after w ps).has_put ≡ false → output (events_of ps) ≡ []
+row-quiet w [] old new row none = refl
+row-quiet w (p ∷ ps) old new row none =
+    let v = watched_after w p.event p.core in
+    let one : was_put p.event ≡ false =
+    or-none (was_put p.event) w.has_put (unput-by v.has_put v ps refl none) in
+    output-append p.seen (events_of ps)
+    ∙ (ap (λ (l : List ℕ). l ++ output (events_of ps))
+    (unput p.event p.core.memory (taken p.seen) (output p.seen) row.1.passes one)
+    ∙ row-quiet v ps row.0 new row.2 none)
 
 -- ---- steps that only went on
 

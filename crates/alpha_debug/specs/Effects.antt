@@ -1,7 +1,7 @@
 -- What the code of a session did against its definition, where the sink may tell nothing. What was written may still
 -- wait in a block.
-use Rattle.std.specs.Prelude.{◌≡◌, ℕ, ◌+◌, ◌-◌, ◌≤◌, ◌==◌, Bool, true, false, IsTrue, List, [], ◌++◌, length, All, take}
-use Rattle.std.specs.Prelude.{Option}
+use Rattle.std.specs.Prelude.{◌≡◌, ◌⊎◌, ℕ, ◌+◌, ◌-◌, ◌≤◌, ◌==◌, Bool, true, false, IsTrue, List, [], ◌++◌, length, All}
+use Rattle.std.specs.Prelude.{take, Option}
 use Rattle.std.specs.Io.KnownBytes.{Consumes}
 use Rattle.alpha_io.specs.History.{HasGiven}
 use Rattle.alpha_io.specs.Supply.{Supply}
@@ -22,7 +22,8 @@ use Rattle.alpha_debug.specs.declared.end.DebugEnd.TheVariants.{Done, InputFault
 use Rattle.alpha_io.specs.declared.sink.Sink.{Ghosts}
 use Rattle.alpha_debug.specs.OutputChange.{OutputChange, output_change, AppendsOutput, SinkFailsWith}
 use Rattle.alpha_debug.specs.Session.{Setting, Session, IsSetting, opened, text_of, step_until, answer}
-use Rattle.alpha_debug.specs.Script.{Transcript, transcript_from, script_limit}
+use Rattle.alpha_debug.specs.Script.{Transcript, transcript_from, lines_within, script_limit}
+use Rattle.alpha_debug.specs.Handed.{Stops, HandsEach, lines_come}
 
 -- ---- writing
 
@@ -51,6 +52,11 @@ pub record StepsUntil (wanted : Until) (points : List ℕ) (most : ℕ) (end : O
 abbrev pub StepUntilFails : Until → List ℕ → ℕ → Machine → OutputChange → Type 0
 StepUntilFails wanted points most old out = (text : List ℕ)
     → FailsBehind out text (step_until (program_of old) wanted points most (state_of old) text).text
+
+-- the program puts nothing in the steps of the definition
+abbrev pub PutsNothing : Until → List ℕ → ℕ → Machine → Type 0
+PutsNothing wanted points most old =
+    (text : List ℕ) → (step_until (program_of old) wanted points most (state_of old) text).text ≡ text
 
 -- ---- a session
 
@@ -84,6 +90,14 @@ pub record SessionEffect (becomes : Session → Session) (old new : Debugger) (o
 -- the sink failed, with a prefix written of what the definition says
 abbrev pub Fails : (Session → Session) → Debugger → OutputChange → Type 0
 Fails becomes old out = (text : List ℕ) → FailsBehind out text (text_of (becomes (session_of old text)))
+
+-- the program puts nothing
+abbrev pub IsQuiet : (Session → Session) → Debugger → Type 0
+IsQuiet becomes old = (text : List ℕ) → text_of (becomes (session_of old text)) ≡ text
+
+-- the program put nothing, or nothing waits behind what it put
+abbrev pub HandsSteps : (Session → Session) → Debugger → Debugger → Type 0
+HandsSteps becomes old new = IsQuiet becomes old ⊎ (new.watcher.block ≡ [])
 
 -- a session whose program stands at its start, and which has nothing to put
 pub record IsOpened (image : Parts) (d : Debugger) : Type 0 where
@@ -156,6 +170,46 @@ abbrev pub CloseEffect : DebugEnd → List ℕ → Debugger → OutputChange →
 CloseEffect Done begun d out = Closes begun d out
 CloseEffect SinkFault begun d out = CloseFails begun d out
 CloseEffect end begun d out = ⊥
+
+-- ---- what is handed over
+
+-- what a session hands over from one moment of its sink on, that goes on over a script behind a line begun
+abbrev pub hands_from : {K : Type 0} → Ghosts K → DebugEnd → K → Debugger → List ℕ → ℕ → List ℕ → List ℕ → K → Type 0
+hands_from k end last d text most begun script sink =
+    HandsEach k (setting_of d) end last (session_of d text) (lines_within most begun script) sink d.watcher.block
+
+-- over the rest of a script, by whether `quit` came
+abbrev pub hands_after : {K : Type 0} → Ghosts K → SessionState → DebugEnd → K → Debugger → List ℕ → ℕ → List ℕ → List ℕ
+    → K → Type 0
+hands_after k Continues end last d text most begun rest sink = hands_from k end last d text most begun rest sink
+hands_after k Quits end last d text most begun rest sink = (lines : List (List ℕ))
+    → Stops k (setting_of d) end last (left_by Quits d text) lines sink d.watcher.block
+
+-- the lines that end within some bytes of a script were answered, and handed over each, between two moments of the sink
+pub record Carries {K : Type 0} (k : Ghosts K) (bytes begun : List ℕ) (talk : SessionState) (old new : Debugger)
+    (held : List ℕ) (o p : K) : Type 0 where
+  pub put : List ℕ
+  pub line : List ℕ
+  pub pending_is : IsPendingLine line held
+  pub on : (end : DebugEnd) (last : K) (text : List ℕ) (most : ℕ) (rest : List ℕ) → length bytes ≤ most
+      → hands_after k talk end last new (text ++ put) (most - length bytes) line rest p
+      → hands_from k end last old text most begun (bytes ++ rest) o
+
+-- the sink failed among them
+abbrev pub CarryFails : {K : Type 0} → Ghosts K → List ℕ → List ℕ → Debugger → K → K → Type 0
+CarryFails k bytes begun old o p = (text : List ℕ) (most : ℕ) (rest : List ℕ) → length bytes ≤ most
+    → hands_from k SinkFault p old text most begun (bytes ++ rest) o
+
+-- the end of a script
+abbrev pub HandsLast : {K : Type 0} → Ghosts K → DebugEnd → List ℕ → Debugger → K → K → Type 0
+HandsLast k end begun d o p = (text : List ℕ) (most : ℕ) → hands_from k end p d text most begun [] o
+
+-- a whole session
+pub record HandsAll {K : Type 0} (d : Debugger) (script : Drawn) (k : Ghosts K) (end : DebugEnd) (old new : K)
+    : Type 0 where
+  pub taken : List ℕ
+  pub calls : HasGiven script.old.replies script.new.replies taken
+  pub each : HandsEach k (setting_of d) end new (session_of d []) (lines_come end taken) old d.watcher.block
 
 -- ---- a whole session
 

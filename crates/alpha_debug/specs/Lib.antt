@@ -6,3 +6,4 @@ pub mod Script
 pub mod Watched
 pub mod Effects
 pub mod DebugEffect
+pub mod Handed

@@ -164,3 +164,10 @@ answer g (Break at) s = adding s at
 answer g (Clear at) s = clearing s at
 answer g Quit s = record s { over = true }
 answer g command s = with_text s (shown g command s.state)
+
+-- how a session stands when the steps of a command are made, and nothing is said of them yet
+abbrev pub behind_steps : Setting → Command → Session → Session
+behind_steps g (Step n) s = if_not_ended g until.Spent n s
+behind_steps g Go s = if_not_ended g until.Breakpoint most_steps s
+behind_steps g Barrier s = if_not_ended g until.Barrier most_steps s
+behind_steps g command s = s

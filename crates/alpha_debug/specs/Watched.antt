@@ -1,5 +1,6 @@
 -- What a watcher makes of each step of a walk.
-use Rattle.std.specs.Prelude.{ℕ, ◌-◌, ◌^◌, ◌==◌, Bool, true, false, if◌then◌else◌, List, [], length, Option, Some, None}
+use Rattle.std.specs.Prelude.{ℕ, ◌-◌, ◌^◌, ◌==◌, ◌||◌, Bool, true, false, if◌then◌else◌, List, [], length, Option}
+use Rattle.std.specs.Prelude.{Some, None}
 use Rattle.alpha_mem.specs.Block.{Block, shapes, within}
 use Rattle.alpha_mem.specs.Intent.{Load}
 use Rattle.alpha_mem.specs.Memory.{bytes_at}
@@ -21,6 +22,11 @@ use Rattle.alpha_debug.specs.Session.{is_reached}
 abbrev pub was_barrier : SeenEvent → Bool
 was_barrier (events.Barrier passed) = true
 was_barrier event = false
+
+-- whether it put something
+abbrev pub was_put : SeenEvent → Bool
+was_put (events.Barrier (Put addr len)) = true
+was_put event = false
 
 -- how the program ended, by the last step
 abbrev pub end_by : Option SeenEvent → Option End
@@ -47,7 +53,8 @@ abbrev pub watched_lines : Watcher → SeenEvent → Machine → List ℕ
 watched_lines w event m = put_behind w.block event m.memory
 
 abbrev pub watched_after : Watcher → SeenEvent → Machine → Watcher
-watched_after w event m = record w { block = waits_behind w.block event m.memory }
+watched_after w event m =
+    record w { block = waits_behind w.block event m.memory; has_put = was_put event || w.has_put }
 
 -- whether the step is the one that is wanted
 abbrev pub watched_stops : Watcher → SeenEvent → Machine → Bool

@@ -1,8 +1,9 @@
 //! A block of bytes on their way to a sink.
 
-ghost use Rattle.std.specs.Prelude.{◌≡◌, ◌+◌, ◌-◌, ◌≤◌, [], ◌++◌, length, take, OnOk, OnErr};
+ghost use Rattle.std.specs.Prelude.{◌≡◌, ◌+◌, ◌-◌, ◌≤◌, true, [], ◌++◌, length, take, OnOk, OnErr};
 ghost use Rattle.alpha_io.specs.SinkChange.{sink_change, Puts};
-ghost use Rattle.alpha_debug.specs.OutputChange.{output_change, put_for, waits_for, CutShort, SinkFailsWith};
+ghost use Rattle.alpha_debug.specs.OutputChange.{output_change, put_for, waits_for};
+ghost use Rattle.alpha_debug.specs.OutputChange.{AppendsOutput, CutShort, SinkFailsWith};
 
 use alpha_io::{Failed, Sink, write_whole};
 use std::marker::Model;
@@ -67,6 +68,18 @@ impl Block {
         write_whole(out, &self.bytes[..self.len])?;
         self.len = 0;
         Ok(())
+    }
+
+    /// Puts all bytes where they are due.
+    pub fn flush_due<K: Sink>(&mut self, due: bool, out: &mut K) -> Result<(), Failed>
+        ensures ok { OnOk result (AppendsOutput (output_change K.Sink out.old self.old out.new self.new) []) }
+        ensures empty { OnOk result (due ≡ true → self.new ≡ []) }
+        ensures refused { OnErr result (SinkFailsWith (output_change K.Sink out.old self.old out.new self.new) []) }
+    {
+        if !due {
+            return Ok(());
+        }
+        self.flush(out)
     }
 
     /// Takes all of the bytes, and puts those before them where they don't fit.

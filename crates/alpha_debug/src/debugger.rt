@@ -1,9 +1,11 @@
-ghost use Rattle.std.specs.Prelude.{◌≡◌, [], IsTrue, IfOk, OnOk, OnErr};
+ghost use Rattle.std.specs.Prelude.{◌≡◌, [], false, IsTrue, IfOk, OnOk, OnErr};
 ghost use Rattle.alpha_debug.specs.OutputChange.{AppendsOutput, SinkFailsWith};
 ghost use Rattle.alpha_seq.specs.Machine.{state_of};
 ghost use Rattle.alpha_debug.specs.Session.{IsVerdict, if_not_ended, continue_until, adding, clearing, is_shown, shown};
+ghost use Rattle.alpha_debug.specs.Session.{behind_steps};
 ghost use Rattle.alpha_debug.specs.Effects.{setting_of, session_output, with_block, IsOpened, Remains, SessionEffect};
 ghost use Rattle.alpha_debug.specs.Effects.{Fails, Answers, AnswerFails};
+ghost use Rattle.alpha_debug.specs.Effects.{IsQuiet, HandsSteps};
 
 use crate::block::Block;
 use crate::breakpoints::{MOST_POINTS, has_point, remove_point};
@@ -58,6 +60,7 @@ impl Debugger {
                 until: Until::Spent,
                 points: ArrayVec::new(),
                 block: Block::new(),
+                has_put: false,
             },
             end: None,
         })
@@ -68,6 +71,7 @@ impl Debugger {
         requires { IsTrue self.old.machine.kernel.user }
         ensures ok { IfOk result (λ talk. Answers command talk self.old self.new
             (session_output K.Sink out.old self.old out.new self.new)) }
+        ensures handed { OnOk result (HandsSteps (behind_steps (setting_of self.old) command) self.old self.new) }
         ensures refused { OnErr result (AnswerFails command self.old
             (session_output K.Sink out.old self.old out.new self.new)) }
         ensures same { Remains self.old self.new }
@@ -85,7 +89,7 @@ impl Debugger {
         Ok(SessionState::Continues)
     }
 
-    // Makes steps, and says where the program stands.
+    // Makes steps, and says where the program stands. What the program put is put behind them.
     fn continue_until<K: Sink>(
         &mut self,
         until: Until,
@@ -95,6 +99,22 @@ impl Debugger {
         requires { IsTrue self.old.machine.kernel.user }
         ensures ok { OnOk result (SessionEffect (continue_until (setting_of self.old) until most) self.old self.new
             (session_output K.Sink out.old self.old out.new self.new)) }
+        ensures handed { OnOk result (HandsSteps (if_not_ended (setting_of self.old) until most) self.old self.new) }
+        ensures refused { OnErr result (Fails (continue_until (setting_of self.old) until most) self.old
+            (session_output K.Sink out.old self.old out.new self.new)) }
+        ensures same { Remains self.old self.new }
+    {
+        self.run_until(until, most, out)?;
+        self.watcher.block.flush_due(self.watcher.has_put, out)
+    }
+
+    // Makes steps, and says where the program stands.
+    fn run_until<K: Sink>(&mut self, until: Until, most: u64, out: &mut K) -> Result<(), Failed>
+        requires { IsTrue self.old.machine.kernel.user }
+        ensures ok { OnOk result (SessionEffect (continue_until (setting_of self.old) until most) self.old self.new
+            (session_output K.Sink out.old self.old out.new self.new)) }
+        ensures quiet { OnOk result (self.new.watcher.has_put ≡ false
+            → IsQuiet (if_not_ended (setting_of self.old) until most) self.old) }
         ensures refused { OnErr result (Fails (continue_until (setting_of self.old) until most) self.old
             (session_output K.Sink out.old self.old out.new self.new)) }
         ensures same { Remains self.old self.new }
@@ -109,10 +129,13 @@ impl Debugger {
         requires { IsTrue self.old.machine.kernel.user }
         ensures ok { OnOk result (SessionEffect (if_not_ended (setting_of self.old) until most) self.old self.new
             (session_output K.Sink out.old self.old out.new self.new)) }
+        ensures quiet { OnOk result (self.new.watcher.has_put ≡ false
+            → IsQuiet (if_not_ended (setting_of self.old) until most) self.old) }
         ensures refused { OnErr result (Fails (if_not_ended (setting_of self.old) until most) self.old
             (session_output K.Sink out.old self.old out.new self.new)) }
         ensures same { Remains self.old self.new }
     {
+        self.watcher.has_put = false;
         if self.end.is_some() {
             return Ok(());
         }

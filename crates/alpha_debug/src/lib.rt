@@ -11,11 +11,13 @@
 //! the
 //! answers go, in their order. An overflow is completed by wrapping. What is written waits in a block of 16 KiB, which
 //! is
-//! put where it is full, before more of the script is asked for, and at the end.
+//! put where it is full, behind a line in which the program put something, before more of the script is asked for,
+//! and at the end.
 //!
 //! `specs/Command.antt` says what a line says, `specs/Lines.antt` what the lines of the answers are,
 //! `specs/Session.antt`
-//! how a session stands and what it answers to a command, `specs/Script.antt` what the transcript of a script is.
+//! how a session stands and what it answers to a command, `specs/Script.antt` what the transcript of a script is, and
+//! `specs/Handed.antt` how much of it is put where each line is begun.
 //! `specs/Effects.antt` says what the code did against these, where devices may tell nothing,
 //! `specs/OutputChange.antt` what
 //! was put and what waits, `specs/Watched.antt` what is made of each step, and `specs/DebugEffect.antt` what a session

@@ -1,7 +1,9 @@
-ghost use Rattle.std.specs.Prelude.{[], ◌∷◌, List, ℕ, IsTrue, IfOk, OnErr};
+ghost use Rattle.std.specs.Prelude.{[], ◌∷◌, List, ℕ, IsTrue, IfOk, OnOk, OnErr};
 ghost use Rattle.alpha_debug.specs.Command.{command_of};
 ghost use Rattle.alpha_debug.specs.Effects.{session_output, Remains, Answers, AnswerFails, IsPendingLine, FeedsBytes};
 ghost use Rattle.alpha_debug.specs.Effects.{FeedFails};
+ghost use Rattle.alpha_debug.specs.Effects.{setting_of, HandsSteps, Carries, CarryFails};
+ghost use Rattle.alpha_debug.specs.Session.{behind_steps};
 
 use crate::command::{LINE_LIMIT, command_of};
 use crate::debugger::{Debugger, SessionState};
@@ -26,9 +28,13 @@ pub(crate) fn feed<K: Sink>(
     ensures ok { (begun : List ℕ) → IsPendingLine begun pending.old.items
         → IfOk result (λ talk. FeedsBytes bytes.now begun talk debugger.old debugger.new pending.new.items
         (session_output K.Sink out.old debugger.old out.new debugger.new)) }
+    ensures handed { (begun : List ℕ) → IsPendingLine begun pending.old.items → IfOk result (λ talk.
+        Carries K.Sink bytes.now begun talk debugger.old debugger.new pending.new.items out.old out.new) }
     ensures refused { (begun : List ℕ) → IsPendingLine begun pending.old.items
         → OnErr result (FeedFails bytes.now begun debugger.old
         (session_output K.Sink out.old debugger.old out.new debugger.new)) }
+    ensures stopped { (begun : List ℕ) → IsPendingLine begun pending.old.items
+        → OnErr result (CarryFails K.Sink bytes.now begun debugger.old out.old out.new) }
     ensures same { Remains debugger.old debugger.new }
 {
     for byte in bytes {
@@ -51,9 +57,13 @@ fn feed_byte<K: Sink>(
     ensures ok { (begun : List ℕ) → IsPendingLine begun pending.old.items
         → IfOk result (λ talk. FeedsBytes (byte ∷ []) begun talk debugger.old debugger.new pending.new.items
         (session_output K.Sink out.old debugger.old out.new debugger.new)) }
+    ensures handed { (begun : List ℕ) → IsPendingLine begun pending.old.items → IfOk result (λ talk.
+        Carries K.Sink (byte ∷ []) begun talk debugger.old debugger.new pending.new.items out.old out.new) }
     ensures refused { (begun : List ℕ) → IsPendingLine begun pending.old.items
         → OnErr result (FeedFails (byte ∷ []) begun debugger.old
         (session_output K.Sink out.old debugger.old out.new debugger.new)) }
+    ensures stopped { (begun : List ℕ) → IsPendingLine begun pending.old.items
+        → OnErr result (CarryFails K.Sink (byte ∷ []) begun debugger.old out.old out.new) }
     ensures same { Remains debugger.old debugger.new }
 {
     if byte == b'\n' {
@@ -77,6 +87,8 @@ pub(crate) fn answer_line<K: Sink>(
     requires { IsTrue debugger.old.machine.kernel.user }
     ensures ok { IfOk result (λ talk. Answers (command_of line.now) talk debugger.old debugger.new
         (session_output K.Sink out.old debugger.old out.new debugger.new)) }
+    ensures handed { OnOk result
+        (HandsSteps (behind_steps (setting_of debugger.old) (command_of line.now)) debugger.old debugger.new) }
     ensures refused { OnErr result (AnswerFails (command_of line.now) debugger.old
         (session_output K.Sink out.old debugger.old out.new debugger.new)) }
     ensures same { Remains debugger.old debugger.new }

@@ -1,10 +1,10 @@
 //! The steps that a command makes.
 
-ghost use Rattle.std.specs.Prelude.{◌≡◌, IsTrue, IfOk, OnOk, OnErr};
+ghost use Rattle.std.specs.Prelude.{◌≡◌, false, IsTrue, IfOk, OnOk, OnErr};
 ghost use Rattle.alpha_seq.specs.Machine.{Stays};
 ghost use Rattle.alpha_debug.specs.OutputChange.{output_change};
 ghost use Rattle.alpha_debug.specs.Watched.{end_by};
-ghost use Rattle.alpha_debug.specs.Effects.{StepsUntil, StepUntilFails};
+ghost use Rattle.alpha_debug.specs.Effects.{StepsUntil, StepUntilFails, PutsNothing};
 
 use crate::watcher::Watcher;
 use alpha_io::{EmptySource, Failed, NullSink, Sink};
@@ -23,7 +23,10 @@ pub(crate) fn step_until<K: Sink>(
     ensures ok { IfOk result (λ end. StepsUntil watcher.old.until watcher.old.points.items most end
         machine.old machine.new
         (output_change K.Sink out.old watcher.old.block out.new watcher.new.block)) }
-    ensures kept { OnOk result (watcher.new ≡ record watcher.old { block = watcher.new.block }) }
+    ensures kept { OnOk result (watcher.new
+        ≡ record watcher.old { block = watcher.new.block; has_put = watcher.new.has_put }) }
+    ensures quiet { OnOk result (watcher.new.has_put ≡ false
+        → PutsNothing watcher.old.until watcher.old.points.items most machine.old) }
     ensures refused { OnErr result (StepUntilFails watcher.old.until watcher.old.points.items most
         machine.old
         (output_change K.Sink out.old watcher.old.block out.new watcher.new.block)) }

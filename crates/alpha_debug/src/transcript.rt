@@ -1,4 +1,4 @@
-ghost use Rattle.std.specs.Prelude.{◌≡◌, [], IsTrue, List, ℕ, IfOk, OnOk, OnErr};
+ghost use Rattle.std.specs.Prelude.{◌≡◌, ◌≢◌, [], IsTrue, List, ℕ, IfOk, OnOk, OnErr};
 ghost use Rattle.alpha_io.specs.SinkChange.{sink_change};
 ghost use Rattle.alpha_seq.specs.Devices.{drawn};
 ghost use Rattle.alpha_debug.specs.DebugEffect.{DebugEffect};
@@ -6,7 +6,8 @@ ghost use Rattle.alpha_debug.specs.Command.{command_of};
 ghost use Rattle.alpha_debug.specs.OutputChange.{output_change};
 ghost use Rattle.alpha_debug.specs.Effects.{Remains, IsPendingLine, Answers, AnswerFails, FeedsBytes, FeedFails};
 ghost use Rattle.alpha_debug.specs.Effects.{CloseEffect};
-ghost use Rattle.alpha_debug.specs.Effects.{TellEffect};
+ghost use Rattle.alpha_debug.specs.Effects.{TellEffect, Carries, CarryFails, HandsLast, HandsAll};
+ghost use Rattle.alpha_debug.specs.Handed.{Hands};
 
 use crate::DebugEnd;
 use crate::debugger::{Debugger, SessionState};
@@ -28,7 +29,7 @@ const PIECE: usize = 16_384;
 /// The script is cut into lines at its line feeds, before each of which one carriage return may stand; what stands
 /// behind the last one is a line where it isn't empty. Of its bytes the first 1,048,576 count. The session ends at
 /// `quit`, or at the end of the script. Memory is taken only while the session is made, before anything is taken or
-/// written.
+/// written. What the program puts in a line is put before the next one is begun.
 ///
 /// At most 1,048,577 bytes of the script are taken. Where a device fails, a prefix of the transcript was written.
 /// Without memory for the session the devices are not called.
@@ -41,6 +42,8 @@ pub fn debug<S: Source, K: Sink>(
     ensures effect { DebugEffect result image
         (drawn S.Source script.old script.new)
         (sink_change K.Sink out.old out.new) }
+    ensures handed { result ≢ DebugEnd.NoMemory
+        → Hands image (drawn S.Source script.old script.new) K.Sink result out.old out.new }
     ensures same { result ≡ DebugEnd.NoMemory → (script.new ≡ script.old) × (out.new ≡ out.old) }
 {
     match Debugger::new(alloc, image) {
@@ -53,9 +56,10 @@ pub fn debug<S: Source, K: Sink>(
 fn run_session<S: Source, K: Sink>(debugger: &mut Debugger, script: &mut S, out: &mut K) -> DebugEnd
     requires mode { IsTrue debugger.old.machine.kernel.user }
     requires block { debugger.old.watcher.block ≡ [] }
-    ensures { TellEffect result debugger.old
+    ensures told { TellEffect result debugger.old
         (drawn S.Source script.old script.new)
         (output_change K.Sink out.old [] out.new []) }
+    ensures handed { HandsAll debugger.old (drawn S.Source script.old script.new) K.Sink result out.old out.new }
 {
     let mut held = ArrayVec::new();
     let mut space = [0; PIECE];
@@ -96,9 +100,13 @@ fn feed_piece<K: Sink>(
     ensures ok { (begun : List ℕ) → IsPendingLine begun pending.old.items
         → IfOk result (λ talk. FeedsBytes bytes.now begun talk debugger.old debugger.new pending.new.items
         (output_change K.Sink out.old [] out.new [])) }
+    ensures handed { (begun : List ℕ) → IsPendingLine begun pending.old.items → IfOk result (λ talk.
+        Carries K.Sink bytes.now begun talk debugger.old debugger.new pending.new.items out.old out.new) }
     ensures refused { (begun : List ℕ) → IsPendingLine begun pending.old.items
         → OnErr result (FeedFails bytes.now begun debugger.old
         (output_change K.Sink out.old [] out.new [])) }
+    ensures stopped { (begun : List ℕ) → IsPendingLine begun pending.old.items
+        → OnErr result (CarryFails K.Sink bytes.now begun debugger.old out.old out.new) }
     ensures block { OnOk result (debugger.new.watcher.block ≡ []) }
     ensures same { Remains debugger.old debugger.new }
 {
@@ -111,8 +119,10 @@ fn feed_piece<K: Sink>(
 fn close<K: Sink>(debugger: &mut Debugger, pending: &PendingLine, out: &mut K) -> DebugEnd
     requires mode { IsTrue debugger.old.machine.kernel.user }
     requires block { debugger.old.watcher.block ≡ [] }
-    ensures { (begun : List ℕ) → IsPendingLine begun pending.now.items → CloseEffect result begun debugger.old
+    ensures told { (begun : List ℕ) → IsPendingLine begun pending.now.items → CloseEffect result begun debugger.old
         (output_change K.Sink out.old [] out.new []) }
+    ensures handed { (begun : List ℕ) → IsPendingLine begun pending.now.items
+        → HandsLast K.Sink result begun debugger.old out.old out.new }
 {
     match answer_last(debugger, pending.as_slice(), out) {
         Ok(_) => DebugEnd::Done,
@@ -132,6 +142,7 @@ fn answer_last<K: Sink>(
         (output_change K.Sink out.old [] out.new [])) }
     ensures refused { OnErr result (AnswerFails (command_of line.now) debugger.old
         (output_change K.Sink out.old [] out.new [])) }
+    ensures block { OnOk result (debugger.new.watcher.block ≡ []) }
 {
     let talk = answer_line(debugger, line, out)?;
     debugger.watcher.block.flush(out)?;

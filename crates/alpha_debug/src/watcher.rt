@@ -4,7 +4,7 @@ ghost use Rattle.std.specs.Prelude.{◌≡◌, OnOk, OnErr};
 ghost use Rattle.alpha_io.specs.SinkChange.{sink_change, Puts};
 ghost use Rattle.alpha_debug.specs.OutputChange.{CutShort};
 ghost use Rattle.alpha_debug.specs.Session.{is_reached};
-ghost use Rattle.alpha_debug.specs.Watched.{was_barrier, put_behind, waits_behind};
+ghost use Rattle.alpha_debug.specs.Watched.{was_barrier, was_put, put_behind, waits_behind};
 
 use crate::block::Block;
 use crate::breakpoints::{Points, has_point};
@@ -33,6 +33,8 @@ pub(crate) struct Watcher {
     pub points: Points,
     /// What the session has written and not put yet.
     pub block: Block,
+    /// Whether the program has put something in the line in hand.
+    pub has_put: bool,
 }
 
 impl Observer for Watcher {
@@ -65,6 +67,7 @@ impl Observer for Watcher {
         notes: &mut N,
     ) -> Result<bool, Failed> {
         take_put(&mut self.block, event, machine, notes)?;
+        self.has_put = was_put(event) || self.has_put;
         Ok(is_reached(self.until, self.points.as_slice(), event, machine.pc))
     }
 }
@@ -79,6 +82,14 @@ fn is_reached(until: Until, points: &[u64], event: &Event, pc: u64) -> bool
         Until::Breakpoint => has_point(points, pc),
         Until::Barrier => matches!(event, Event::Barrier(_)),
     }
+}
+
+// Whether a step put something.
+#[inline(always)]
+fn was_put(event: &Event) -> bool
+    ensures { result ≡ was_put event.now }
+{
+    matches!(event, Event::Barrier(Passed::Put { .. }))
 }
 
 // Takes what a step put, which stands in the memory behind it.

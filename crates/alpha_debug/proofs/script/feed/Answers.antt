@@ -4,10 +4,11 @@ use Rattle.std.proofs.Math.Seq.{take-suc}
 use Rattle.std.proofs.lemmas.List.{take_all}
 use Rattle.alpha_debug.specs.declared.debugger.SessionState.{SessionState}
 use Rattle.alpha_debug.specs.declared.debugger.SessionState.TheVariants.{Continues, Quits}
-use Rattle.alpha_debug.specs.Effects.{FeedsBytes, FeedFails}
+use Rattle.alpha_debug.specs.Effects.{FeedsBytes, FeedFails, Carries, CarryFails}
 use Rattle.alpha_debug.proofs.Sinks.{AppendsOutput-none, session_OnErr-any}
 use Rattle.alpha_debug.proofs.Scripts.{FeedsBytes-none, FeedsBytes-then, FeedFails-then, FeedsBytes-quit}
 use Rattle.alpha_debug.proofs.Scripts.{FeedFails-more, take-get_or-drop}
+use Rattle.alpha_debug.proofs.HandedLines.{carries_none, carries_then, carries_quit, carry_fails_then, carry_fails_more}
 use Rattle.alpha_debug.specs.OutputChange.{output_change, output_change_by}
 use Rattle.alpha_debug.proofs.script.feed.Goals as goal
 
@@ -20,6 +21,8 @@ loop-byte-init g c = record {
       c.args.out.now c.args.debugger.now.watcher.block)
       is_held
       (AppendsOutput-none g.K.Sink c.args.out.now c.args.debugger.now.watcher.block);
+  carries = λ begun is_held.
+      carries_none g.K.Sink begun c.args.pending.now.items c.args.debugger.now c.args.out.now is_held;
 }
 
 pub returns-in_err-feed_byte-clause-refused : goal.returns-in_err-feed_byte-clause-refused
@@ -112,6 +115,15 @@ loop-byte-preserved g c =
             c.feed_byte.new.debugger.watcher.block,
           ) (take i bytes)
           (b ∷ []) begun old c.loop-byte.debugger new c.loop-byte.pending.items first Continues held second);
+      carries = λ begun is_held.
+          let first = c.loop-byte.invariant.carries begun is_held in
+          let second = subst (λ (talk : SessionState). Carries g.K.Sink (b ∷ []) first.line talk c.loop-byte.debugger
+          new held c.loop-byte.out c.feed_byte.new.out) c.in-Continues.is
+          (c.in_ok-feed_byte.ensures.handed first.line first.pending_is) in
+          subst (λ (l : List ℕ).
+          Carries g.K.Sink l begun Continues old new held c.args.out.now c.feed_byte.new.out) (sym more)
+          (carries_then g.K.Sink c.args.out.now c.loop-byte.out c.feed_byte.new.out (take i bytes) (b ∷ []) begun old
+          c.loop-byte.debugger new c.loop-byte.pending.items first Continues held second);
     }
 
 pub returns-clause-ok : goal.returns-clause-ok
@@ -125,3 +137,51 @@ returns-clause-ok g c =
     (output_change g.K.Sink c.args.out.now c.args.debugger.now.watcher.block c.loop-byte.out
     c.loop-byte.debugger.watcher.block))
     (take_all i bytes end) (c.loop-byte.invariant.hears begun is_held)
+
+pub returns-in_err-feed_byte-clause-stopped : goal.returns-in_err-feed_byte-clause-stopped
+returns-in_err-feed_byte-clause-stopped g c =
+    let bytes = c.args.bytes.now in
+    let i = c.loop-byte.byte-index in
+    let b : ℕ = get_or bytes i 0 in
+    let less : i < length bytes = omega arith in
+    let old = c.args.debugger.now in
+    let o = c.args.out.now in
+    let q = c.feed_byte.new.out in
+    λ begun is_held.
+    let first = c.loop-byte.invariant.carries begun is_held in
+    session_OnErr-any c.from_residual.result
+    (subst (λ (l : List ℕ). CarryFails g.K.Sink l begun old o q) (take-get_or-drop bytes i less)
+    (carry_fails_more g.K.Sink o q (take i bytes ++ b ∷ []) (drop (suc i) bytes) begun old
+    (carry_fails_then g.K.Sink o c.loop-byte.out q (take i bytes) (b ∷ []) begun old c.loop-byte.debugger
+    c.feed_byte.new.debugger c.loop-byte.pending.items first
+    (c.in_err-feed_byte.ensures.stopped first.line first.pending_is))))
+
+pub returns-in-Quits-clause-handed : goal.returns-in-Quits-clause-handed
+returns-in-Quits-clause-handed g c =
+    let bytes = c.args.bytes.now in
+    let i = c.loop-byte.byte-index in
+    let b : ℕ = get_or bytes i 0 in
+    let less : i < length bytes = omega arith in
+    let old = c.args.debugger.now in
+    let new = c.feed_byte.new.debugger in
+    let held = c.feed_byte.new.pending.items in
+    let o = c.args.out.now in
+    let q = c.feed_byte.new.out in
+    λ begun is_held.
+    let first = c.loop-byte.invariant.carries begun is_held in
+    let second = subst (λ (talk : SessionState). Carries g.K.Sink (b ∷ []) first.line talk c.loop-byte.debugger new held
+    c.loop-byte.out q) c.in-Quits.is (c.in_ok-feed_byte.ensures.handed first.line first.pending_is) in
+    subst (λ (l : List ℕ). Carries g.K.Sink l begun Quits old new held o q) (take-get_or-drop bytes i less)
+    (carries_quit g.K.Sink o q (take i bytes ++ b ∷ []) (drop (suc i) bytes) begun old new held
+    (carries_then g.K.Sink o c.loop-byte.out q (take i bytes) (b ∷ []) begun old c.loop-byte.debugger new
+    c.loop-byte.pending.items first Quits held second))
+
+pub returns-clause-handed : goal.returns-clause-handed
+returns-clause-handed g c =
+    let bytes = c.args.bytes.now in
+    let i = c.loop-byte.byte-index in
+    let end : length bytes ≤ i = omega arith in
+    λ begun is_held.
+    subst (λ (l : List ℕ). Carries g.K.Sink l begun Continues c.args.debugger.now c.loop-byte.debugger
+    c.loop-byte.pending.items c.args.out.now c.loop-byte.out)
+    (take_all i bytes end) (c.loop-byte.invariant.carries begun is_held)

@@ -3,7 +3,7 @@ use Rattle.alpha_io.specs.SinkChange.{sink_change}
 use Rattle.alpha_seq.specs.declared.end.End.{End}
 use Rattle.alpha_debug.specs.OutputChange.{output_change}
 use Rattle.alpha_debug.specs.Effects.{StepsUntil}
-use Rattle.alpha_debug.proofs.Steps.{RunsTo-StepsUntil, walked-kept, StepUntilFails-cut}
+use Rattle.alpha_debug.proofs.Steps.{RunsTo-StepsUntil, walked-kept, walked-quiet, StepUntilFails-cut}
 use Rattle.alpha_debug.proofs.stepping.step_until.Goals as goal
 
 pub returns-in-Ok-clause-ok : goal.returns-in-Ok-clause-ok
@@ -22,6 +22,12 @@ returns-in-Ok-clause-kept g c =
     walked-kept c.args.watcher.now c.run-last.new.observer c.args.most
     c.run-last.new.left c.args.machine.now c.run-last.new.machine _ _ _ _
     (sink_change g.K.Sink c.args.out.now c.run-last.new.notes) refl c.in-Ok.last c.in-Ok.ensures.made
+
+pub returns-in-Ok-clause-quiet : goal.returns-in-Ok-clause-quiet
+returns-in-Ok-clause-quiet g c = λ quiet.
+    walked-quiet c.args.watcher.now c.run-last.new.observer c.args.most
+    c.run-last.new.left c.args.machine.now c.run-last.new.machine _ _ _ _
+    (sink_change g.K.Sink c.args.out.now c.run-last.new.notes) refl c.in-Ok.last c.in-Ok.ensures.made quiet
 
 pub returns-in-Err-clause-refused : goal.returns-in-Err-clause-refused
 returns-in-Err-clause-refused g c =

@@ -3,6 +3,7 @@ use Rattle.alpha_debug.specs.OutputChange.{output_change}
 use Rattle.alpha_debug.specs.Effects.{FeedsBytes}
 use Rattle.alpha_debug.proofs.Sinks.{session_OnErr-any}
 use Rattle.alpha_debug.proofs.Pieces.{FeedsBytes-put, FeedsBytes-stopped}
+use Rattle.alpha_debug.proofs.HandedLines.{carries_put, carries_stopped}
 use Rattle.alpha_debug.proofs.transcript.feed_piece.Goals as goal
 
 pub returns-in_err-flush-clause-refused : goal.returns-in_err-flush-clause-refused
@@ -35,3 +36,16 @@ returns-clause-ok g c = λ begun is_held.
     FeedsBytes-put g.K.Sink c.args.out.now new.out c.flush.new.out new.debugger.watcher.block c.flush.new.self bytes
     begun
     talk old new.debugger new.pending.items hears c.in_ok-flush.ensures.ok
+
+pub returns-in_err-flush-clause-stopped : goal.returns-in_err-flush-clause-stopped
+returns-in_err-flush-clause-stopped g c = λ begun is_held.
+    session_OnErr-any c.from_residual-in_err-flush.result
+    (carries_stopped g.K.Sink c.flush.new.self c.args.bytes.now begun c.in_ok-talk.talk c.args.debugger.now
+    c.feed.new.debugger c.feed.new.pending.items c.args.out.now c.feed.new.out c.flush.new.out
+    (c.in_ok-talk.ensures.handed begun is_held) c.in_err-flush.ensures.refused)
+
+pub returns-clause-handed : goal.returns-clause-handed
+returns-clause-handed g c = λ begun is_held.
+    carries_put g.K.Sink c.flush.new.self c.args.bytes.now begun c.in_ok-talk.talk c.args.debugger.now
+    c.feed.new.debugger c.feed.new.pending.items c.args.out.now c.feed.new.out c.flush.new.out
+    c.in_ok-flush.ensures.empty c.in_ok-flush.ensures.ok (c.in_ok-talk.ensures.handed begun is_held)

@@ -1,50 +1,41 @@
-use Rattle.std.proofs.Common.{◌≡◌, ◌∙◌, subst}
-use Rattle.alpha_debug.specs.Session.{if_not_ended}
-use Rattle.alpha_debug.specs.Lines.{where_line}
+use Rattle.std.proofs.Common.{◌≡◌, true, []}
+use Rattle.alpha_debug.specs.Session.{continue_until, if_not_ended}
 use Rattle.alpha_debug.specs.Effects.{setting_of}
-use Rattle.alpha_debug.proofs.Sinks.{OnOk-map, OnErr-map}
-use Rattle.alpha_debug.proofs.Sessions.{where_line_put, where_fails}
 use Rattle.alpha_debug.specs.OutputChange.{output_change_by, AppendsOutput, SinkFailsWith}
+use Rattle.alpha_debug.proofs.Sinks.{OnOk-map, OnErr-map}
+use Rattle.alpha_debug.proofs.Sessions.{then_put, then_fails, hands}
 use Rattle.alpha_debug.proofs.debugger.Debugger.continue_until.Goals as goal
 
 pub returns-clause-ok : goal.returns-clause-ok
 returns-clause-ok g c =
-    let written = g.K.Sink.written in
-    let faults = g.K.Sink.faults in
-    let line : c.as_bytes.result.now ≡ where_line c.make_steps.new.self.end c.make_steps.new.self.machine.pc =
-    c.as_bytes.ensures ∙ c.where_line-line.ensures in
-    OnOk-map c.emit.result
-    (λ (wrote : AppendsOutput (output_change_by written faults (
-      c.make_steps.new.out,
-      c.make_steps.new.self.watcher.block,
-    ) (c.emit.new.out, c.emit.new.block)) c.as_bytes.result.now).
-    where_line_put written faults (c.args.out.now, c.args.self.now.watcher.block)
-    (c.make_steps.new.out, c.make_steps.new.self.watcher.block) (c.emit.new.out, c.emit.new.block)
-    (if_not_ended (setting_of c.args.self.now) c.args.until c.args.most) c.args.self.now c.make_steps.new.self
-    c.in_ok-make_steps.ensures.ok
-    (subst (AppendsOutput (output_change_by written faults (
-      c.make_steps.new.out,
-      c.make_steps.new.self.watcher.block,
-    ) (c.emit.new.out, c.emit.new.block))) line wrote))
-    c.emit.ensures.ok
+    OnOk-map c.flush_due.result
+    (λ (wrote : AppendsOutput (output_change_by g.K.Sink.written g.K.Sink.faults (
+      c.run_until.new.out,
+      c.run_until.new.self.watcher.block,
+    ) (c.flush_due.new.out, c.flush_due.new.self)) []).
+    then_put g.K.Sink.written g.K.Sink.faults (c.args.out.now, c.args.self.now.watcher.block)
+    (c.run_until.new.out, c.run_until.new.self.watcher.block) (c.flush_due.new.out, c.flush_due.new.self)
+    (continue_until (setting_of c.args.self.now) c.args.until c.args.most) c.args.self.now c.run_until.new.self
+    c.in_ok-run_until.ensures.ok wrote)
+    c.flush_due.ensures.ok
+
+pub returns-clause-handed : goal.returns-clause-handed
+returns-clause-handed g c =
+    OnOk-map c.flush_due.result
+    (λ (empty : c.run_until.new.self.watcher.has_put ≡ true → c.flush_due.new.self ≡ []).
+    hands c.run_until.new.self.watcher.has_put (if_not_ended (setting_of c.args.self.now) c.args.until c.args.most)
+    c.args.self.now c.flush_due.new.self c.in_ok-run_until.ensures.quiet empty)
+    c.flush_due.ensures.empty
 
 pub returns-clause-refused : goal.returns-clause-refused
 returns-clause-refused g c =
-    let written = g.K.Sink.written in
-    let faults = g.K.Sink.faults in
-    let line : c.as_bytes.result.now ≡ where_line c.make_steps.new.self.end c.make_steps.new.self.machine.pc =
-    c.as_bytes.ensures ∙ c.where_line-line.ensures in
-    OnErr-map c.emit.result
-    (λ (stops : SinkFailsWith (output_change_by written faults (
-      c.make_steps.new.out,
-      c.make_steps.new.self.watcher.block,
-    ) (c.emit.new.out, c.emit.new.block)) c.as_bytes.result.now).
-    where_fails written faults (c.args.out.now, c.args.self.now.watcher.block)
-    (c.make_steps.new.out, c.make_steps.new.self.watcher.block) (c.emit.new.out, c.emit.new.block)
-    (if_not_ended (setting_of c.args.self.now) c.args.until c.args.most) c.args.self.now c.make_steps.new.self
-    c.in_ok-make_steps.ensures.ok
-    (subst (SinkFailsWith (output_change_by written faults (
-      c.make_steps.new.out,
-      c.make_steps.new.self.watcher.block,
-    ) (c.emit.new.out, c.emit.new.block))) line stops))
-    c.emit.ensures.refused
+    OnErr-map c.flush_due.result
+    (λ (stops : SinkFailsWith (output_change_by g.K.Sink.written g.K.Sink.faults (
+      c.run_until.new.out,
+      c.run_until.new.self.watcher.block,
+    ) (c.flush_due.new.out, c.flush_due.new.self)) []).
+    then_fails g.K.Sink.written g.K.Sink.faults (c.args.out.now, c.args.self.now.watcher.block)
+    (c.run_until.new.out, c.run_until.new.self.watcher.block) (c.flush_due.new.out, c.flush_due.new.self)
+    (continue_until (setting_of c.args.self.now) c.args.until c.args.most) c.args.self.now c.run_until.new.self
+    c.in_ok-run_until.ensures.ok stops)
+    c.flush_due.ensures.refused
