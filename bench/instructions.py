@@ -31,7 +31,7 @@ def table_file(name):
 
 def operate_rows():
     """Name to opcode, function, and level."""
-    row = re.compile(r'^ +\w+ b"(\S+)" 0x(..) 0x(..) \w+(?:\(\w+\))? \w+ (One|Two),$', re.M)
+    row = re.compile(r'^ +\w+ "(\S+)" 0x(..) 0x(..) \w+(?:\(\w+\))? \w+ (One|Two),$', re.M)
     return {name: (code.upper() + "." + function.upper(), LEVELS[level])
             for name, code, function, level in row.findall(table_file("operate.rt"))}
 
@@ -39,7 +39,7 @@ def operate_rows():
 def other_rows(macro):
     """The names of one macro of formats.rt with their numbers."""
     text = table_file("formats.rt").split("macro_rules! " + macro, 1)[1].split("macro_rules!", 1)[0]
-    row = re.compile(r'^ +[\w:]+ b"(\S+)" (0x[0-9a-f]+|\d+) \(.*\),$', re.M)
+    row = re.compile(r'^ +[\w:]+ "(\S+)" (0x[0-9a-f]+|\d+) \(.*\),$', re.M)
     return {name: int(number, 0) for name, number in row.findall(text)}
 
 

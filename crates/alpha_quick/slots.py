@@ -25,9 +25,9 @@ def names():
     operates = (TABLE / "operate.rt").read_text()
     others = (TABLE / "formats.rt").read_text()
     beside = (CRATES / "alpha_text" / "src" / "head.rt").read_text()
-    found = [(f"Op::{row}", name) for row, name in re.findall(r'^ +(\w+) b"([^"]+)" 0x', operates, re.M)]
-    found += re.findall(r'^ +(\w+::\w+) b"([^"]+)"', others, re.M)
-    found += [(f"modify: {row}", name) for row, name in re.findall(r'^ +(true|false) b"([^"]+)"', others, re.M)]
+    found = [(f"Op::{row}", name) for row, name in re.findall(r'^ +(\w+) "([^"]+)" 0x', operates, re.M)]
+    found += re.findall(r'^ +(\w+::\w+) "([^"]+)"', others, re.M)
+    found += [(f"modify: {row}", name) for row, name in re.findall(r'^ +(true|false) "([^"]+)"', others, re.M)]
     found += [(f"PseudoOp::{row}", name) for row, name in re.findall(r'^ +(\w+) b"([^"]+)" \w+,$', beside, re.M)]
     return dict(found)
 

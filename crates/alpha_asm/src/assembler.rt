@@ -16,7 +16,8 @@ use crate::program::assembled_program;
 use alpha_image::Image;
 use std::alloc::Global;
 
-/// The image that a source defines.
+/// The image that a source defines: bytes, fewer than 2^32, in lines of 1,024 at most without their ends, of the line
+/// grammar that `alpha_text` reads. It goes over the lines once.
 ///
 /// # Errors
 ///

@@ -9,6 +9,7 @@ pub mod Reading
 pub mod Parts
 pub mod PartsOf
 pub mod Insns
+pub mod ImageField
 pub mod ImageFault
 pub mod Tells
 pub mod Header

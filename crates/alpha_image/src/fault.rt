@@ -11,7 +11,7 @@ use thiserror::Error;
 /// `Field`, `Length`, `BadWord`; for all other bytes the order of the variants.
 ///
 /// The fields are numbered 1 code base, 2 data bases, 3 code words, 4 data bytes, 5 zeroed bytes,
-/// 6 stack bytes, 7 entry, 8 overlap, 9 level and 10 number of segments.
+/// 6 stack bytes, 7 entry, 8 overlap, 9 level and 10 number of segments, as [`ImageField`](crate::ImageField) has them.
 #[derive(Clone, Copy, Debug, PartialEq, Eq, Error)]
 pub enum ImageFault {
     /// There are only so many bytes, fewer than stand before the code.

@@ -25,7 +25,7 @@
 //!   image's level. A clause sees its `Parts`, one record for both versions. The code is held as
 //!   instructions, which are decoded once, where the words are read: [`Image::insn`],
 //!   [`Image::insn_at`] and [`Image::insns`] give them, and [`Image::code_bytes`] their words.
-//! - [`ImageFault`] says why there is no image.
+//! - [`ImageFault`] says why there is no image, and [`ImageField`] which field its number is.
 //! - [`Fields`] are the numbers that [`Image::build`] makes an image of version 1 of, with its code and
 //!   data bytes. [`LevelFields`] and [`Segment`] are those of [`Image::build_level`], for version 2. The
 //!   least bad field of such numbers is [`Fields::bad_field`] and [`LevelFields::bad_field`], which need
@@ -67,6 +67,7 @@
 
 mod build;
 mod fault;
+mod field;
 mod fields;
 mod header;
 mod image;
@@ -81,6 +82,7 @@ mod words;
 mod write;
 
 pub use fault::ImageFault;
+pub use field::ImageField;
 pub use fields::{Fields, LevelFields};
 pub use image::{Image, code_word};
 pub use laws::{laws_of_fields, laws_of_pieces, laws_of_places, laws_of_spelling};

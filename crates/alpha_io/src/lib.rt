@@ -64,7 +64,9 @@ pub use shelf::Shelf;
 pub use sink::{Sink, write_whole};
 pub use source::Source;
 pub use stream::{ReadSource, WriteSink};
+use thiserror::Error;
 
 /// The one answer of a device that failed.
-#[derive(Clone, Copy, Debug, PartialEq, Eq)]
+#[derive(Clone, Copy, Debug, PartialEq, Eq, Error)]
+#[error("the device failed")]
 pub struct Failed;

@@ -1,6 +1,8 @@
 ghost use Rattle.std.specs.Prelude.{◌≡◌};
 ghost use Rattle.alpha_mem.specs.Size.{size_of};
 
+use thiserror::Error;
+
 /// How many bytes a load or a store has (Architecture Handbook, section 2.2).
 #[derive(Clone, Copy, Debug, PartialEq, Eq)]
 pub enum Size {
@@ -30,11 +32,13 @@ impl Size {
 }
 
 /// Why a load or a store is refused.
-#[derive(Clone, Copy, Debug, PartialEq, Eq)]
+#[derive(Clone, Copy, Debug, PartialEq, Eq, Error)]
 pub enum MemFault {
     /// The address is no multiple of the size (Architecture Handbook, section 4.2). This is checked
     /// first.
+    #[error("the address is no multiple of the size")]
     Align,
     /// A byte lies in no region or, for a store, in a region that isn't writable.
+    #[error("a byte lies in no region, or a store meets one that isn't writable")]
     Region,
 }

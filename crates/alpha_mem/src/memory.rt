@@ -47,7 +47,9 @@ impl Memory {
         }
     }
 
-    /// Adds a region at `base`: the bytes and then `zeroed` zeros. `NoMemory` changes nothing.
+    /// Adds a region at `base`: the bytes and then `zeroed` zeros. Its base is a multiple of 16, it ends at 2^30 at
+    /// most, and it shares no address with another region. Stores may write it where it is `writable`. It copies the
+    /// bytes. `NoMemory` changes nothing.
     pub fn add(
         &mut self,
         base: u64,

@@ -61,7 +61,7 @@ impl Journal {
         self.completion
     }
 
-    /// How the run ends.
+    /// How the run ends, by the numbers that the journal has: they may be of no end that a program has.
     pub fn ending(&self) -> Ending
         ensures value { result ≡ self.now.ending }
         ensures good { IsJournal self.now }

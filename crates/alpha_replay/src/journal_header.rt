@@ -132,7 +132,7 @@ impl JournalHeader {
         }
     }
 
-    /// The ending.
+    /// How the run ends, by the header's kind and its two numbers.
     pub fn ending(&self) -> Ending
         ensures value { result ≡ ending_in self.now.kind self.now.first self.now.second }
     {

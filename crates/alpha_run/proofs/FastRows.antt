@@ -59,7 +59,8 @@ ones_more steps_to n core old mid new ones is =
       count = omega (arith, length-append ones.labels (p ∷ []), ones.count);
     }
 
-FastSteps-by : {M : Type 0} (steps_to : M → StepLabel → M → Type 0) (n : ℕ) (old new : M) → Ones steps_to (0 + n) old new
+FastSteps-by : {M : Type 0} (steps_to : M → StepLabel → M → Type 0) (n : ℕ) (old new : M)
+    → Ones steps_to (0 + n) old new
     → FastSteps steps_to n old new
 FastSteps-by steps_to n old new one = (one.labels, one.row, one.went, omega (arith, one.count))
 
@@ -119,5 +120,6 @@ pub imprecise_run_fast-FastSteps : (n : ℕ) (old new : ImpreciseState) → Impr
     → FastSteps ImpreciseStep n old new
 imprecise_run_fast-FastSteps n old new rushed = FastSteps-by ImpreciseStep n old new
     (ImpreciseFastSteps-fold (λ i w. Ones ImpreciseStep i old w)
-    (λ i mid w ones steps_to. ones_more ImpreciseStep i w.machine old mid w ones (imprecise_goes mid w steps_to)) n 0 old new
+    (λ i mid w ones steps_to. ones_more ImpreciseStep i w.machine old mid w ones (imprecise_goes mid w steps_to)) n 0
+    old new
     (ones_none ImpreciseStep old) rushed)

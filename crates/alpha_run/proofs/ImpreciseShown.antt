@@ -61,7 +61,8 @@ going_as (Reported at) e = refl
 going_as (Lost pc mask) e = cc
 
 -- such a run, by its last step
-pub record WholeRun (last : Option SeenEvent) (n left : ℕ) (watch : Bool) (old new : ImpreciseState) (before after : Oracle)
+pub record WholeRun (last : Option SeenEvent) (n left : ℕ) (watch : Bool) (old new : ImpreciseState)
+    (before after : Oracle)
     (input : Drawn) (out sink : SinkChange) : Type 0 where
   pub last_event : ImpreciseEvent
   pub count : ℕ

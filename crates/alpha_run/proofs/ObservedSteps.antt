@@ -23,7 +23,8 @@ use Rattle.alpha_seq.proofs.Fronts.{fed_all}
 use Rattle.alpha_run.specs.RunEffect.{watching, drawn_to, StateAfterFault, IsObservedStep, FaultedStep}
 
 -- the step was made, and all of its lines are written
-pub StepEffect-IsObservedStep : {M O : Type 0} (steps_to : M → StepLabel → M → Type 0) (uses : M → ℕ) (core : M → Machine)
+pub StepEffect-IsObservedStep : {M O : Type 0} (steps_to : M → StepLabel → M → Type 0) (uses : M → ℕ)
+    (core : M → Machine)
     (next : O → Event → Machine → O) (lines : O → Event → Machine → List ℕ) (stops : O → Event → Machine → Bool)
     (event : Event) (stop last : Bool) (old new : M) (m : Machine) (from to : O) (before after : Oracle) (input : Drawn)
     (out notes : SinkChange)
@@ -31,7 +32,8 @@ pub StepEffect-IsObservedStep : {M O : Type 0} (steps_to : M → StepLabel → M
     → to ≡ next from event m → Puts notes (lines from event m)
     → stop ≡ stops from event m → last ≡ (stop || is_over event)
     → IsObservedStep steps_to uses (watching next lines stops) event last old new from to before after input out notes
-StepEffect-IsObservedStep steps_to uses core next lines stops event stop last old new m from to before after input out notes
+StepEffect-IsObservedStep steps_to uses core next lines stops event stop last old new m from to before after input out
+    notes
     one here seen
     wrote stop_is last_is =
     let p = one.label in
@@ -89,7 +91,8 @@ pub notes-Idles : {M O : Type 0} (steps_to : M → StepLabel → M → Type 0) (
     (out notes : SinkChange)
     → StepEffect steps_to uses core (OracleDraws before after) event old new input out → m ≡ core new
     → WritesPartly notes (lines from event m) → HasFailed notes
-    → FaultedStep steps_to uses leaves (watching next lines stops) faults.Notes old new from before after input out notes
+    → FaultedStep steps_to uses leaves
+    (watching next lines stops) faults.Notes old new from before after input out notes
 notes-Idles steps_to uses core leaves next lines stops event old new m from before after input out notes one here wrote
     failed =
     let p = one.label in

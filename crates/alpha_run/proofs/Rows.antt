@@ -39,7 +39,8 @@ use Rattle.alpha_run.specs.RunEffect.{ContinuesRun, EndsRun, IsPrefixRun}
 pub Row-append : {M : Type 0} (steps_to : M → StepLabel → M → Type 0) (ps qs : List StepLabel) (old mid new : M)
     → Row steps_to old ps mid → Row steps_to mid qs new → Row steps_to old (ps ++ qs) new
 Row-append steps_to [] qs old mid new row more = subst (λ m. Row steps_to m qs new) (sym row) more
-Row-append steps_to (p ∷ ps) qs old mid new row more = (row.0, row.1, Row-append steps_to ps qs row.0 mid new row.2 more)
+Row-append steps_to (p ∷ ps) qs old mid new row more =
+    (row.0, row.1, Row-append steps_to ps qs row.0 mid new row.2 more)
 
 pub AreGoing-append : (ps qs : List StepLabel) → AreGoing ps → AreGoing qs → AreGoing (ps ++ qs)
 AreGoing-append [] qs going more = more
@@ -92,7 +93,8 @@ Feeds-append t xs ys one two = record {
 
 -- ---- no step yet
 
-pub ContinuesRun-none : {M O : Type 0} (steps_to : M → StepLabel → M → Type 0) (w : Watching O) (units : ℕ) (m : M) (o : O)
+pub ContinuesRun-none : {M O : Type 0} (steps_to : M → StepLabel → M → Type 0) (w : Watching O) (units : ℕ) (m : M)
+    (o : O)
     (told : Oracle) (left : Supply) (out notes : Option (List ℕ)) (a b c : ℕ)
     → ContinuesRun steps_to w units units m m o o told told (unused_device left a) (idle_sink out b) (idle_sink notes c)
 ContinuesRun-none steps_to w units m o told left out notes a b c = record {
@@ -172,18 +174,22 @@ pub ContinuesRun-append : {M O : Type 0} (steps_to : M → StepLabel → M → T
     (out notes : StepTimes (Option (List ℕ)))
     → ContinuesRun steps_to w units some old mid from via before told (drawn_before input) (sunk_before out)
     (sunk_before notes)
-    → ContinuesRun steps_to w some left mid new via to told after (drawn_after input) (sunk_after out) (sunk_after notes)
-    → ContinuesRun steps_to w units left old new from to before after (drawn_over input) (sunk_over out) (sunk_over notes)
-ContinuesRun-append steps_to w units some left old mid new from via to before told after input out notes one two = record {
-  labels = one.labels ++ two.labels;
-  row = Row-append steps_to one.labels two.labels old mid new one.row two.row;
-  going = AreGoing-append one.labels two.labels one.going two.going;
-  unstopped =
-      Unstopped-append w.after w.stops from one.labels two.labels one.unstopped
-      (subst (λ o. Unstopped w.after w.stops o two.labels) one.effect.seen two.unstopped);
-  used = omega (arith, label_units-append one.labels two.labels, one.used, two.used);
-  effect = RunEffect-append w from via to one.labels two.labels before told after input out notes one.effect two.effect;
-}
+    → ContinuesRun steps_to w some left mid new via to told after (drawn_after input) (sunk_after out)
+    (sunk_after notes)
+    → ContinuesRun steps_to w units left old new from to before after (drawn_over input) (sunk_over out)
+    (sunk_over notes)
+ContinuesRun-append steps_to w units some left old mid new from via to before told after input out notes one two =
+    record {
+      labels = one.labels ++ two.labels;
+      row = Row-append steps_to one.labels two.labels old mid new one.row two.row;
+      going = AreGoing-append one.labels two.labels one.going two.going;
+      unstopped =
+          Unstopped-append w.after w.stops from one.labels two.labels one.unstopped
+          (subst (λ o. Unstopped w.after w.stops o two.labels) one.effect.seen two.unstopped);
+      used = omega (arith, label_units-append one.labels two.labels, one.used, two.used);
+      effect =
+          RunEffect-append w from via to one.labels two.labels before told after input out notes one.effect two.effect;
+    }
 
 -- one step
 pub ContinuesRun-step : {M O : Type 0} (steps_to : M → StepLabel → M → Type 0) (uses : M → ℕ) (w : Watching O)
@@ -242,7 +248,8 @@ pub EndsRun-last : {M O : Type 0} (steps_to : M → StepLabel → M → Type 0) 
     (sunk_before notes)
     → IsObservedStep steps_to uses w event last mid new via to told after (drawn_after input) (sunk_after out)
     (sunk_after notes)
-    → EndsRun steps_to w units left event old new from to before after (drawn_over input) (sunk_over out) (sunk_over notes)
+    → EndsRun steps_to w units left event old new from to before after (drawn_over input) (sunk_over out)
+    (sunk_over notes)
 EndsRun-last steps_to uses w units some left event last old mid new
     from via to before told after input out notes room off one two =
     record {
@@ -315,7 +322,8 @@ pub ContinuesRun-IsPrefixRun : {M O : Type 0} (fault : Fault) (steps_to : M → 
     (sunk_after notes)
     → IsPrefixRun fault steps_to leaves w units left old new from before after (drawn_over input) (sunk_over out)
     (sunk_over notes)
-ContinuesRun-IsPrefixRun fault steps_to uses leaves w units some left old mid new from via before told after input out notes
+ContinuesRun-IsPrefixRun fault steps_to uses leaves w units some left old mid new from via before told after input out
+    notes
     room one two =
     let ps = one.labels in
     let p = two.label in

@@ -39,7 +39,8 @@ none_lost (Waited adds value bytes) never = tt
 none_lost (Reported at) never = tt
 none_lost (Lost pc mask) never = absurd (never pc mask refl)
 
-pub loses_none : (last : Option SeenEvent) (n left : ℕ) (watch : Bool) (old new : ImpreciseState) (before after : Oracle)
+pub loses_none : (last : Option SeenEvent) (n left : ℕ) (watch : Bool) (old new : ImpreciseState)
+    (before after : Oracle)
     (input : Drawn) (out notes : SinkChange)
     → WholeRun last n left watch old new before after input out notes → old.pending ≡ None
     → NeverLoses old.machine.image
@@ -111,7 +112,8 @@ shows last n left watch old new before after input out notes w bytes tells fresh
       lines = subst (Puts notes) same.notes ran.noted;
     }
 
-pub ImpreciseRanAs-restarts : (r : Result (Option SeenEvent) Fault) (n left : ℕ) (watch : Bool) (old new : ImpreciseState)
+pub ImpreciseRanAs-restarts : (r : Result (Option SeenEvent) Fault) (n left : ℕ) (watch : Bool)
+    (old new : ImpreciseState)
     (before after : Oracle) (input : Drawn) (out notes : SinkChange)
     → IfOk r (λ last. ImpreciseRanAs last n left watch old new before after input out notes)
     → IfErr r (λ fault. ImprecisePrefixRun fault n left watch old new before after input out notes)

@@ -193,7 +193,8 @@ spent units left watch old new from to before behind input out sink is least one
       fed = one.effect.fed;
     }
 
-stopped : (units left : ℕ) (event : SeenEvent) (watch : Bool) (old new : Machine) (from to : Notes) (before behind : Oracle)
+stopped : (units left : ℕ) (event : SeenEvent) (watch : Bool) (old new : Machine) (from to : Notes)
+    (before behind : Oracle)
     (input : Drawn) (out sink : SinkChange)
     → from ≡ record { watch = watch }
     → EndsRun SeqStep (watching stays lines_seen never) units left event old new from to before behind input out sink

@@ -118,7 +118,8 @@ pub record FaultedStep {M O : Type 0} (steps_to : M → StepLabel → M → Type
   pub cause : Causes fault input out notes
 
 -- Steps that only went on, a unit each, and that the observer has passed over.
-pub record RunsFast {M O : Type 0} (steps_to : M → StepLabel → M → Type 0) (w : Watching O) (units left : ℕ) (old new : M)
+pub record RunsFast {M O : Type 0} (steps_to : M → StepLabel → M → Type 0) (w : Watching O) (units left : ℕ)
+    (old new : M)
     (from to : O) : Type 0 where
   pub count : ℕ
   pub used : count + left ≡ units
@@ -139,7 +140,8 @@ pub record ContinuesRun {M O : Type 0} (steps_to : M → StepLabel → M → Typ
   pub effect : RunEffect w from to labels before after input out notes
 
 -- such steps, and one more, behind which it ends
-pub record EndsRun {M O : Type 0} (steps_to : M → StepLabel → M → Type 0) (w : Watching O) (units left : ℕ) (event : Event)
+pub record EndsRun {M O : Type 0} (steps_to : M → StepLabel → M → Type 0) (w : Watching O) (units left : ℕ)
+    (event : Event)
     (old new : M) (from to : O)
     (before after : Oracle) (input : Drawn) (out notes : SinkChange) : Type 0 where
   pub labels : List StepLabel

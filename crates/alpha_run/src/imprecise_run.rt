@@ -16,10 +16,18 @@ use alpha_io::{Sink, Source};
 use alpha_seq::{Event, Fault};
 
 /// Makes steps by the chooser's words until the program ends, a trap is lost, or no unit is left and nothing is
-/// pending, and writes their lines to the notes.
+/// pending, and writes their lines to the notes: a line for each overflow, and with `watch` the lines of each barrier.
+/// `left` is the number of units that may be used, and the rest of them behind the call: a step uses one, or none
+/// while a trap is pending. The answer is the last event, `Ended` or `Lost`, or `None` where no unit is left before one
+/// comes.
 ///
 /// From a machine at the start of an image that can be restarted it is the sequential run whatever the chooser answers,
 /// and `Lost` never comes. Nor does it where no such run loses a trap.
+///
+/// # Errors
+///
+/// `Input`, `Output` or `Notes`, the device that failed. What the steps before put stays, with a front of what the step
+/// puts in which it failed.
 #[inline(never)]
 pub fn run_imprecise<C: Chooser, S: Source, K: Sink, N: Sink>(
     wild: &mut Wild,

@@ -12,7 +12,14 @@ use alpha_io::{Sink, Source};
 use alpha_seq::{Event, Fault, Machine};
 
 /// Makes steps, in user mode and a unit each, until the program ends or no unit is left, and writes their lines to the
-/// notes.
+/// notes: a line for each overflow, and with `watch` the lines of each barrier. `left` is the number of units that may
+/// be used, and the rest of them behind the call. The answer is the last event, with which the program ended, or `None`
+/// where no unit is left before that: a further call goes on.
+///
+/// # Errors
+///
+/// `Input`, `Output` or `Notes`, the device that failed. What the steps before put stays, with a front of what the step
+/// puts in which it failed.
 #[inline(never)]
 pub fn run_sequential<S: Source, K: Sink, N: Sink>(
     machine: &mut Machine,

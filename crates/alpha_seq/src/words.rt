@@ -134,7 +134,8 @@ pub(crate) fn computed(op: MemOp, base: u64, disp: i16) -> u64
     }
 }
 
-/// The target of a branch at this address (Architecture Handbook, section 4.3).
+/// The target of a branch at this address: it stands `disp` words, of four bytes each, behind the word that follows the
+/// branch, modulo 2^64 (Architecture Handbook, section 4.3).
 #[inline(always)]
 pub fn branch_target(pc: u64, disp: i32) -> u64
     ensures { result ≡ register_of (pos (pc + 4) +ℤ pos 4 *ℤ disp) }

@@ -1,5 +1,6 @@
 ghost use Rattle.std.specs.Prelude.{◌≡◌};
 
+use std::fmt;
 use thiserror::Error;
 
 /// A condition of a trap shadow, C1 to C9 in this order (Architecture Handbook, arithmetic trap
@@ -26,6 +27,19 @@ pub enum Condition {
     Long,
 }
 
+impl fmt::Display for Condition {
+    ghost use Rattle.std.specs.Prelude.{◌∷◌, Some, decimal};
+    ghost use Rattle.alpha_shadow.specs.Least.{condition_number};
+
+    ghost output = { λ c. Some (67 ∷ decimal (condition_number c)) };
+
+    // As `C5`.
+    fn fmt<W: fmt::Write>(&self, f: &mut fmt::Formatter<W>) -> fmt::Result {
+        let number = self.number();
+        write!(f, "C{number}")
+    }
+}
+
 impl Condition {
     ghost use Rattle.alpha_shadow.specs.Least.{condition_number};
 
@@ -49,7 +63,7 @@ impl Condition {
 
 /// A broken place: the trigger's word number, the word number of the place, and the condition.
 #[derive(Clone, Copy, Debug, PartialEq, Eq, Error)]
-#[error("word {at} breaks C{} of the trigger at word {trigger}", .condition.number())]
+#[error("word {at} breaks {condition} of the trigger at word {trigger}")]
 pub struct Broken {
     /// The word number of the trigger.
     pub trigger: u32,

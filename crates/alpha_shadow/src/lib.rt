@@ -5,7 +5,8 @@
 //! - [`Condition`] is one of the nine conditions, C1 to C9, and [`Broken`] a broken place.
 //! - [`judge`] is the verdict on the instructions that a [`Fetch`] gives. It looks at each word once at
 //!   most, in their order, and takes no memory. A [`Checker`] gives one verdict after another, in the
-//!   same room. [`InsnCode`] is the code of instructions in a slice, or the rest of it from a place on.
+//!   same room. [`InsnCode`] is the code of instructions in a slice, or the rest of it from a place on. [`Counted`]
+//!   makes a [`Fetch`] of any [`Code`], and counts the looks.
 //! - [`judge_words`] is the verdict on words, for who has neither an image nor a [`Fetch`] of his own, or a
 //!   [`Refusal`].
 //! - [`laws_of_verdicts`] says that each condition is decided, and that every list of words is
@@ -36,6 +37,7 @@ mod insn_code;
 mod last;
 mod laws;
 mod loads;
+mod looks;
 mod place;
 mod triggers;
 mod verdict;
@@ -46,5 +48,6 @@ pub use broken::{Broken, Condition};
 pub use fetch::{Fetch, NextTrigger};
 pub use insn_code::InsnCode;
 pub use laws::laws_of_verdicts;
+pub use looks::{Code, Counted};
 pub use verdict::{Checker, judge};
 pub use words::{Refusal, judge_words};

@@ -4,7 +4,7 @@ ghost use Rattle.alpha_table.specs.Decoded.{decoded};
 ghost use Rattle.alpha_shadow.specs.Broken.{IsAccepted};
 ghost use Rattle.alpha_shadow.specs.Words.{AreKnown, IsInTable, Refuses};
 
-use crate::{Broken, Fetch, judge};
+use crate::{Broken, Code, Counted, judge};
 use alpha_table::{Insn, decode, decode_inline};
 use alpha_words::Word;
 use thiserror::Error;
@@ -43,7 +43,7 @@ pub fn judge_words(words: &[u32]) -> Result<(), Refusal>
     if let Some(place) = first_unknown(words) {
         return Err(Refusal::Unknown(place as u32));
     }
-    match judge(&mut WordsCode { words, fetches: 0 }) {
+    match judge(&mut Counted::new(WordsCode { words })) {
         Ok(()) => Ok(()),
         Err(broken) => Err(Refusal::Broken(broken)),
     }
@@ -65,25 +65,21 @@ fn is_unknown(word: u32) -> bool
     decode_inline(Word(word)).is_none()
 }
 
-// The words, each an instruction's, and how often one was looked at.
+// The words, each an instruction's.
 #[derive(Drop)]
 struct WordsCode<'a> {
     words: &'a [u32],
-    fetches: u64,
     ghost known: { AreKnown words.now },
 }
 
-impl<'a> Fetch for WordsCode<'a> {
+impl<'a> Code for WordsCode<'a> {
     ghost code = { λ c. c.words.now };
-
-    ghost fetches = { λ c. c.fetches };
 
     fn words(&self) -> u32 {
         self.words.len() as u32
     }
 
-    fn insn(&mut self, place: u32) -> Insn {
-        self.fetches = self.fetches.saturating_add(1);
+    fn insn(&self, place: u32) -> Insn {
         decode(Word(self.words[place as usize])).unwrap()
     }
 }

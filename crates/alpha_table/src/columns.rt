@@ -241,7 +241,8 @@ pub fn trap_op(i: &Insn) -> Option<TrapOp>
     }
 }
 
-/// The least level whose implementations have the instruction.
+/// The least level whose implementations have the instruction: two for CTPOP, CTLZ and CTTZ, else one (Architecture
+/// Handbook, section 4.11).
 pub fn level_of(i: &Insn) -> Level
     ensures { result ≡ level_of i.now }
 {

@@ -14,22 +14,22 @@ macro_rules! memory_rows {
     ($then:ident $($given:expr),*) => {
         $then! {
             ($($given),*)
-            MemOp::Lda b"lda" 0x08 (Address 0 false),
-            MemOp::Ldah b"ldah" 0x09 (Address 0 false),
-            MemOp::Ldbu b"ldbu" 0x0a (Load(Zero) 1 false),
-            MemOp::Ldl b"ldl" 0x28 (Load(Sign) 4 false),
-            MemOp::LdlL b"ldl_l" 0x2a (LoadLocked(Sign) 4 false),
-            MemOp::Ldq b"ldq" 0x29 (Load(Zero) 8 false),
-            MemOp::LdqL b"ldq_l" 0x2b (LoadLocked(Zero) 8 false),
-            MemOp::LdqU b"ldq_u" 0x0b (Load(Zero) 8 true),
-            MemOp::Ldwu b"ldwu" 0x0c (Load(Zero) 2 false),
-            MemOp::Stb b"stb" 0x0e (Store 1 false),
-            MemOp::Stl b"stl" 0x2c (Store 4 false),
-            MemOp::StlC b"stl_c" 0x2e (StoreConditional 4 false),
-            MemOp::Stq b"stq" 0x2d (Store 8 false),
-            MemOp::StqC b"stq_c" 0x2f (StoreConditional 8 false),
-            MemOp::StqU b"stq_u" 0x0f (Store 8 true),
-            MemOp::Stw b"stw" 0x0d (Store 2 false),
+            MemOp::Lda "lda" 0x08 (Address 0 false),
+            MemOp::Ldah "ldah" 0x09 (Address 0 false),
+            MemOp::Ldbu "ldbu" 0x0a (Load(Zero) 1 false),
+            MemOp::Ldl "ldl" 0x28 (Load(Sign) 4 false),
+            MemOp::LdlL "ldl_l" 0x2a (LoadLocked(Sign) 4 false),
+            MemOp::Ldq "ldq" 0x29 (Load(Zero) 8 false),
+            MemOp::LdqL "ldq_l" 0x2b (LoadLocked(Zero) 8 false),
+            MemOp::LdqU "ldq_u" 0x0b (Load(Zero) 8 true),
+            MemOp::Ldwu "ldwu" 0x0c (Load(Zero) 2 false),
+            MemOp::Stb "stb" 0x0e (Store 1 false),
+            MemOp::Stl "stl" 0x2c (Store 4 false),
+            MemOp::StlC "stl_c" 0x2e (StoreConditional 4 false),
+            MemOp::Stq "stq" 0x2d (Store 8 false),
+            MemOp::StqC "stq_c" 0x2f (StoreConditional 8 false),
+            MemOp::StqU "stq_u" 0x0f (Store 8 true),
+            MemOp::Stw "stw" 0x0d (Store 2 false),
         }
     };
 }
@@ -39,16 +39,16 @@ macro_rules! branch_rows {
     ($then:ident $($given:expr),*) => {
         $then! {
             ($($given),*)
-            BranchOp::Beq b"beq" 0x39 (Some(Cond::Eq)),
-            BranchOp::Bge b"bge" 0x3e (Some(Cond::Ge)),
-            BranchOp::Bgt b"bgt" 0x3f (Some(Cond::Gt)),
-            BranchOp::Blbc b"blbc" 0x38 (Some(Cond::Lbc)),
-            BranchOp::Blbs b"blbs" 0x3c (Some(Cond::Lbs)),
-            BranchOp::Ble b"ble" 0x3b (Some(Cond::Le)),
-            BranchOp::Blt b"blt" 0x3a (Some(Cond::Lt)),
-            BranchOp::Bne b"bne" 0x3d (Some(Cond::Ne)),
-            BranchOp::Br b"br" 0x30 (None),
-            BranchOp::Bsr b"bsr" 0x34 (None),
+            BranchOp::Beq "beq" 0x39 (Some(Cond::Eq)),
+            BranchOp::Bge "bge" 0x3e (Some(Cond::Ge)),
+            BranchOp::Bgt "bgt" 0x3f (Some(Cond::Gt)),
+            BranchOp::Blbc "blbc" 0x38 (Some(Cond::Lbc)),
+            BranchOp::Blbs "blbs" 0x3c (Some(Cond::Lbs)),
+            BranchOp::Ble "ble" 0x3b (Some(Cond::Le)),
+            BranchOp::Blt "blt" 0x3a (Some(Cond::Lt)),
+            BranchOp::Bne "bne" 0x3d (Some(Cond::Ne)),
+            BranchOp::Br "br" 0x30 (None),
+            BranchOp::Bsr "bsr" 0x34 (None),
         }
     };
 }
@@ -58,10 +58,10 @@ macro_rules! jump_rows {
     ($then:ident $($given:expr),*) => {
         $then! {
             ($($given),*)
-            JumpKind::Jmp b"jmp" 0 (),
-            JumpKind::Jsr b"jsr" 1 (),
-            JumpKind::JsrCoroutine b"jsr_coroutine" 3 (),
-            JumpKind::Ret b"ret" 2 (),
+            JumpKind::Jmp "jmp" 0 (),
+            JumpKind::Jsr "jsr" 1 (),
+            JumpKind::JsrCoroutine "jsr_coroutine" 3 (),
+            JumpKind::Ret "ret" 2 (),
         }
     };
 }
@@ -72,10 +72,10 @@ macro_rules! misc_rows {
     ($then:ident $($given:expr),*) => {
         $then! {
             ($($given),*)
-            MiscOp::Excb b"excb" 0x0400 (true),
-            MiscOp::Mb b"mb" 0x4000 (false),
-            MiscOp::Trapb b"trapb" 0x0000 (true),
-            MiscOp::Wmb b"wmb" 0x4400 (false),
+            MiscOp::Excb "excb" 0x0400 (true),
+            MiscOp::Mb "mb" 0x4000 (false),
+            MiscOp::Trapb "trapb" 0x0000 (true),
+            MiscOp::Wmb "wmb" 0x4400 (false),
         }
     };
 }
@@ -85,8 +85,8 @@ macro_rules! fetch_rows {
     ($then:ident $($given:expr),*) => {
         $then! {
             ($($given),*)
-            false b"fetch" 0x8000 (),
-            true b"fetch_m" 0xa000 (),
+            false "fetch" 0x8000 (),
+            true "fetch_m" 0xa000 (),
         }
     };
 }
@@ -96,13 +96,13 @@ macro_rules! pal_rows {
     ($then:ident $($given:expr),*) => {
         $then! {
             ($($given),*)
-            PalCall::Bpt b"bpt" 0x80 (),
-            PalCall::Bugchk b"bugchk" 0x81 (),
-            PalCall::Callsys b"callsys" 0x83 (),
-            PalCall::Gentrap b"gentrap" 0xaa (),
-            PalCall::Imb b"imb" 0x86 (),
-            PalCall::Rdunique b"rdunique" 0x9e (),
-            PalCall::Wrunique b"wrunique" 0x9f (),
+            PalCall::Bpt "bpt" 0x80 (),
+            PalCall::Bugchk "bugchk" 0x81 (),
+            PalCall::Callsys "callsys" 0x83 (),
+            PalCall::Gentrap "gentrap" 0xaa (),
+            PalCall::Imb "imb" 0x86 (),
+            PalCall::Rdunique "rdunique" 0x9e (),
+            PalCall::Wrunique "wrunique" 0x9f (),
         }
     };
 }
@@ -208,7 +208,7 @@ impl MemOp {
     }
 
     /// Its name, as `ldq_l`.
-    pub(crate) fn name(self) -> &'static [u8]
+    pub(crate) fn name(self) -> &'static str
         ensures { result.now ≡ mem_name self }
     {
         memory_rows!(name_of self)
@@ -225,7 +225,7 @@ impl BranchOp {
     }
 
     /// Its name, as `beq`.
-    pub(crate) fn name(self) -> &'static [u8]
+    pub(crate) fn name(self) -> &'static str
         ensures { result.now ≡ branch_name self }
     {
         branch_rows!(name_of self)
@@ -241,7 +241,7 @@ impl JumpKind {
     }
 
     /// Its name, as `jsr`.
-    pub(crate) fn name(self) -> &'static [u8]
+    pub(crate) fn name(self) -> &'static str
         ensures { result.now ≡ jump_name self }
     {
         jump_rows!(name_of self)
@@ -266,7 +266,7 @@ impl MiscOp {
     }
 
     /// Its name, as `trapb`.
-    pub(crate) fn name(self) -> &'static [u8]
+    pub(crate) fn name(self) -> &'static str
         ensures { result.now ≡ misc_name self }
     {
         misc_rows!(name_of self)
@@ -289,7 +289,7 @@ pub(crate) fn fetch_function(modify: bool) -> u16
 }
 
 /// The name of a prefetch, with the intent to modify or without.
-pub(crate) fn fetch_name(modify: bool) -> &'static [u8]
+pub(crate) fn fetch_name(modify: bool) -> &'static str
     ensures { result.now ≡ fetch_name modify }
 {
     fetch_rows!(name_of modify)
@@ -311,7 +311,7 @@ pub(crate) fn pal_function(call: PalCall) -> u32
 }
 
 /// The name of a PALcode call, as `callsys`.
-pub(crate) fn pal_name(call: PalCall) -> &'static [u8]
+pub(crate) fn pal_name(call: PalCall) -> &'static str
     ensures { result.now ≡ pal_name call }
 {
     pal_rows!(name_of call)

@@ -1,5 +1,6 @@
 ghost use Rattle.std.specs.Prelude.{◌≡◌, ◌↔◌, IfSome, IfNone, IsTrue};
 ghost use Rattle.alpha_table.specs.Row.{Row, IsInsn, OperandsFit};
+ghost use Rattle.alpha_table.specs.Names.{mnemonic_of, name_of};
 ghost use Rattle.alpha_table.specs.Insn.{Decodes, source_in, form_in, form_row};
 
 use crate::encoder::word_of;
@@ -100,6 +101,13 @@ impl Insn {
         ensures { Row result.0 self.now }
     {
         self.word
+    }
+
+    /// Its name in the table ([`Mnemonic::as_str`](crate::Mnemonic::as_str)), as `addq/v`.
+    pub fn mnemonic(&self) -> &'static str
+        ensures { result.now ≡ name_of (mnemonic_of self.now) }
+    {
+        self.form().mnemonic().as_str()
     }
 
     /// The instruction's format and operands.

@@ -1,4 +1,4 @@
-ghost use Rattle.std.specs.Prelude.{◌≡◌, ◌≢◌, IfSome, IfNone, IsTrue};
+ghost use Rattle.std.specs.Prelude.{◌≡◌, ◌≢◌, Some, IfSome, IfNone, IsTrue};
 ghost use Rattle.std.specs.List.{All};
 ghost use Rattle.alpha_table.specs.Names.{name_of, ascends};
 
@@ -6,6 +6,7 @@ use crate::formats::{BRANCHES, FETCHES, JUMPS, MEMORIES, MISCS, PAL_CALLS, fetch
 use crate::operate::OPERATES;
 use crate::{BranchOp, JumpKind, MemOp, MiscOp, Op};
 use alpha_words::PalCall;
+use std::fmt;
 
 /// What a name of the table stands for: a row of one of the formats (Architecture Handbook, section
 /// 3.3).
@@ -30,9 +31,24 @@ pub enum Mnemonic {
     Pal(PalCall),
 }
 
+impl fmt::Display for Mnemonic {
+    ghost output = { λ m. Some (name_of m) };
+
+    fn fmt<W: fmt::Write>(&self, f: &mut fmt::Formatter<W>) -> fmt::Result {
+        f.pad(self.as_str())
+    }
+}
+
 impl Mnemonic {
-    /// The name in the table, in lower case, as `addq/v`, `ldq_l`, `jsr_coroutine` and `callsys`.
+    /// The bytes of the name in the table ([`Mnemonic::as_str`]).
     pub fn name(self) -> &'static [u8]
+        ensures { result.now ≡ name_of self }
+    {
+        self.as_str().as_bytes()
+    }
+
+    /// The name in the table, in lower case, as `addq/v`, `ldq_l`, `jsr_coroutine` and `callsys`.
+    pub fn as_str(self) -> &'static str
         ensures { result.now ≡ name_of self }
     {
         match self {

@@ -32,7 +32,8 @@ pub struct LineFault {
     pub column: u32,
 }
 
-/// What stands behind a name, from its first token to where so many bytes of the line are left.
+/// What stands behind a name, from its first token to where so many bytes of the line are left. `behind` is the rest of
+/// the line behind the name, `left` a number of bytes at its end: where it has fewer, nothing is left.
 pub fn list_in(behind: &[u8], left: usize) -> &[u8]
     ensures { result.now ≡ list_in behind.now left }
 {

@@ -1,5 +1,7 @@
 -- What the handler leaves, by what its parts did.
-use Rattle.std.proofs.Common.{◌≡◌, ◌<◌, ◌%◌, ◌^◌, ℕ, Bool, true, false, cond, List, length, refl, sym, ap, ◌∙◌, arith}
+use Rattle.std.proofs.Common.{◌≡◌, ◌<◌, ◌%◌, ◌^◌, ℕ, Bool, true, false, cond, None, List, length, refl, sym, ap}
+use Rattle.std.proofs.Common.{◌∙◌, arith}
+use Rattle.std.specs.Option.{option_map}
 use Rattle.std.proofs.lemmas.Grind.{elements}
 use Rattle.std.proofs.Math.Nat.{mod-eq_of_lt}
 use Rattle.alpha_words.specs.declared.Completion.{Completion}
@@ -9,7 +11,9 @@ use Rattle.alpha_pal.specs.Kernel.{KernelState, user_regs, arith_frame, arith_re
 use Rattle.alpha_pal.proofs.Registers.{user_regs-entered, reg_16-user_regs, reg_17-user_regs, reg_18-user_regs}
 use Rattle.alpha_pal.proofs.Registers.{reg_29-user_regs, reg_30-user_regs}
 use Rattle.alpha_image.specs.Parts.{Parts}
-use Rattle.alpha_trap.specs.Handler.{Handled, going_on, handled, kernel_after, mask_in, reported}
+use Rattle.alpha_trap.specs.declared.handler.Lost.{Lost}
+use Rattle.alpha_trap.specs.Handler.{Handled, going_on, handled, handled_at, kernel_after, mask_in, place_of_trap}
+use Rattle.alpha_trap.specs.Handler.{reported, trap_in}
 
 -- the kernel on the way out: its frame has the PC to go on at and the user's registers
 leaving-is : (old k : KernelState) (live : List ℕ) (pc : ℕ) → length live ≡ 32 → k.frame.ps ≡ old.frame.ps
@@ -34,6 +38,9 @@ pub mask_in-entry : (regs : List ℕ) (mask : ℕ) → length regs ≡ 32 → ma
     → mask_in (arith_regs regs mask) ≡ mask
 mask_in-entry regs mask sized small = ap (λ n. n % 2 ^ 31) (last_put regs mask sized) ∙ mod-eq_of_lt small
 
+abbrev trap_at : ℕ → ℕ → Lost
+trap_at pc mask = record { trap_pc = pc; mask = mask }
+
 -- directly after an entry the handler sees the registers, the address and the mask that were given
 pub handled-entry : (image : Parts) (completion : Completion) (pc mask : ℕ) (regs : List ℕ) → length regs ≡ 32
     → mask < 2 ^ 31
@@ -43,6 +50,39 @@ handled-entry image completion pc mask regs sized small =
     ap (λ m. reported image completion pc m (user_regs (entered (arith_frame pc regs) regs) (arith_regs regs mask)))
     (mask_in-entry regs mask sized small)
     ∙ ap (reported image completion pc mask) (user_regs-entered regs pc mask sized)
+
+-- so it does of the kernel and the registers that an entry left
+entered-at : (image : Parts) (completion : Completion) (k : KernelState) (live regs : List ℕ) (pc mask : ℕ)
+    → k ≡ entered (arith_frame pc regs) regs → live ≡ arith_regs regs mask
+    → handled image completion k live
+    ≡ handled image completion (entered (arith_frame pc regs) regs) (arith_regs regs mask)
+entered-at image completion k live regs pc mask is_k is_live =
+    ap (λ (s : KernelState). handled image completion s live) is_k
+    ∙ ap (λ l. handled image completion (entered (arith_frame pc regs) regs) l) is_live
+
+pub handled_report-reported : (image : Parts) (completion : Completion) (k : KernelState) (live regs : List ℕ)
+    (pc mask : ℕ)
+    → length regs ≡ 32 → mask < 2 ^ 31 → k ≡ entered (arith_frame pc regs) regs → live ≡ arith_regs regs mask
+    → handled image completion k live ≡ reported image completion pc mask regs
+handled_report-reported image completion k live regs pc mask sized small is_k is_live =
+    entered-at image completion k live regs pc mask is_k is_live
+    ∙ handled-entry image completion pc mask regs sized small
+
+-- and the trap is the one that was given
+pub trap_in-entry : (k : KernelState) (live regs : List ℕ) (pc mask : ℕ) → length regs ≡ 32 → mask < 2 ^ 31
+    → k ≡ entered (arith_frame pc regs) regs → live ≡ arith_regs regs mask
+    → trap_in k live ≡ record { trap_pc = pc; mask = mask }
+trap_in-entry k live regs pc mask sized small is_k is_live =
+    ap (λ (s : KernelState). trap_in s live) is_k
+    ∙ (ap (λ l. trap_in (entered (arith_frame pc regs) regs) l) is_live
+    ∙ ap (trap_at pc) (mask_in-entry regs mask sized small))
+
+-- where the scan loses a trap, its report is lost
+pub reported-lost : (image : Parts) (completion : Completion) (pc mask : ℕ) (regs : List ℕ) (lost : Lost)
+    → lost ≡ record { trap_pc = pc; mask = mask } → place_of_trap image lost ≡ None
+    → reported image completion pc mask regs ≡ None
+reported-lost image completion pc mask regs lost is none =
+    ap (option_map (handled_at image completion regs)) (sym (ap (λ (t : Lost). place_of_trap image t) is) ∙ none)
 
 -- the kernel after a return, by the calls that made it
 pub kernel_after-return : (old k set done : KernelState) (live new : List ℕ) (next pc : ℕ) → length live ≡ 32

@@ -14,9 +14,11 @@ use alpha_pal::Kernel;
 use alpha_table::Src;
 use alpha_values::completed;
 use alpha_words::{Completion, Reg, RegFile, RegSet};
+use thiserror::Error;
 
 /// A trap whose instruction the scan doesn't find.
-#[derive(Clone, Copy, Debug, PartialEq, Eq)]
+#[derive(Clone, Copy, Debug, PartialEq, Eq, Error)]
+#[error("no instruction can have made the trap at {trap_pc:#x}")]
 pub struct Lost {
     /// The address where it was reported.
     pub trap_pc: u64,
@@ -62,7 +64,7 @@ pub fn handle(
 }
 
 // The trap for which the kernel was entered.
-fn trap_in(kernel: &Kernel, regs: &RegFile) -> Lost
+pub(crate) fn trap_in(kernel: &Kernel, regs: &RegFile) -> Lost
     requires { kernel.now.user ≡ false }
     ensures value { result ≡ trap_in kernel.now regs.now }
     ensures size { length regs.now ≡ 32 }
@@ -104,7 +106,12 @@ fn end_trap(
 
 // Completes an instruction from the user's registers, into the user's destination.
 #[tactic(auto, using(crate::proofs::HandlerEffect::length_live))]
-fn complete(trigger: &Trigger, kernel: &mut Kernel, regs: &mut RegFile, completion: Completion)
+pub(crate) fn complete(
+    trigger: &Trigger,
+    kernel: &mut Kernel,
+    regs: &mut RegFile,
+    completion: Completion,
+)
     requires { kernel.old.user ≡ false }
     ensures user { let user = user_regs kernel.old regs.old in
         let t = trigger.now in

@@ -6,6 +6,7 @@
 //!   what the destination had; a `/V` row gives the wrapped result. [`operate`] is that of level one, and [`outcome`]
 //!   is `None` where a `/V` row overflows.
 //! - [`overflows`] says whether a `/V` instruction overflows, [`completed`] which value completes it.
+//!   [`compute`] gives both and the result in one call.
 //! - [`taken`] is the test of the conditional branches and moves.
 //! - [`address`] and [`high_address`] add a displacement to a base register, and [`access_address`]
 //!   is where an access begins.
@@ -38,5 +39,5 @@ mod trap;
 pub use cond::taken;
 pub use displaced::{access_address, address, high_address};
 pub use laws::{laws_of_addresses, laws_of_completion, laws_of_lists, laws_of_results};
-pub use results::{operate, operate_at, outcome};
+pub use results::{Computed, compute, operate, operate_at, outcome};
 pub use trap::{completed, overflows};

@@ -1,7 +1,7 @@
-ghost use Rattle.std.specs.Prelude.{◌≡◌, if◌then◌else◌, Some, None};
+ghost use Rattle.std.specs.Prelude.{◌≡◌, if◌then◌else◌, Some, None, false};
 ghost use Rattle.alpha_values.specs.Cond.{is_taken};
 ghost use Rattle.alpha_table.specs.Op.{trap_of};
-ghost use Rattle.alpha_values.specs.Outcome.{outcome_of};
+ghost use Rattle.alpha_values.specs.Outcome.{outcome_of, overflows_at};
 ghost use Rattle.alpha_values.specs.TrapOp.{overflow_of, completed_of};
 ghost use Rattle.alpha_words.specs.declared.Level.TheVariants.{One};
 ghost use Rattle.alpha_values.specs.Op.{features, implementation, result_of};
@@ -17,7 +17,7 @@ use crate::sums::{
     extended_byte, extended_word, high_product, scaled_difference, scaled_long_difference,
     scaled_long_sum, scaled_sum,
 };
-use crate::{completed, overflows, taken};
+use crate::{completed, laws_of_completion, overflows, taken};
 use alpha_table::{Cond, Op, TrapOp};
 use alpha_words::{Completion, Level};
 
@@ -122,6 +122,43 @@ pub fn outcome(level: Level, op: Op, a: u64, b: u64, old: u64) -> Option<u64>
         Op::Mskqh => Some(mask_high(8, a, b)),
         Op::Zap => Some(zap(a, b)),
         Op::Zapnot => Some(zap_not(a, b)),
+    }
+}
+
+/// What an operate instruction computes, and what completes it where it overflows.
+#[derive(Clone, Copy, Debug, PartialEq, Eq)]
+pub struct Computed {
+    /// The value for its destination. A `/V` row gives the wrapped result.
+    pub value: u64,
+    /// Whether it has `/V`, and the exact result lies outside the signed range of its size.
+    pub overflows: bool,
+    /// The value that completes it: that for its destination, where it doesn't overflow.
+    pub completed: u64,
+}
+
+/// The result of an operate instruction, whether it overflows, and the value that completes it, in one call:
+/// what [`operate_at`], [`overflows`] and [`completed`] say (Architecture Handbook, sections 4.4 to 4.6 and 4.11).
+/// `a` is Ra, `b` is Rb or the literal, and `old` is what the destination had.
+pub fn compute(level: Level, op: Op, a: u64, b: u64, old: u64, completion: Completion) -> Computed
+    ensures value { result.value ≡ result_of level op a b old }
+    ensures overflows { result.overflows ≡ overflows_at op a b }
+    ensures completed { (trap : _) → trap_of op ≡ Some trap
+        → result.completed ≡ completed_of trap a b completion }
+    ensures same { result.overflows ≡ false → result.completed ≡ result.value }
+{
+    laws_of_completion();
+    let value = operate_at(level, op, a, b, old);
+    match op.trap() {
+        Some(trap) => Computed {
+            value,
+            overflows: overflows(trap, a, b),
+            completed: completed(trap, a, b, completion),
+        },
+        None => Computed {
+            value,
+            overflows: false,
+            completed: value,
+        },
     }
 }
 

@@ -25,10 +25,12 @@ pub use file::RegFile;
 pub use reg::Reg;
 pub use set::RegSet;
 use std::alloc::{AllocError, AllocFailed};
+use thiserror::Error;
 pub use word::Word;
 
 /// Memory ran out. A call that answers it changed nothing, unless it says otherwise.
-#[derive(Clone, Copy, Debug, PartialEq, Eq)]
+#[derive(Clone, Copy, Debug, PartialEq, Eq, Error)]
+#[error("out of memory")]
 pub struct NoMemory;
 
 impl From<AllocError> for NoMemory {

@@ -1,5 +1,6 @@
 ghost use Rattle.std.specs.Prelude.{◌≡◌, ◌%◌, ◌<◌, ◌≤◌, IfSome, IfNone};
 
+use std::fmt;
 use std::marker::Model;
 
 /// An integer register, R0 to R31 (Architecture Handbook, section 3.1.2). A clause sees its number.
@@ -18,6 +19,18 @@ impl Model for Reg {
     ghost invariant = { λ r. r.number < 32 };
 
     ghost inverse = { λ n. record { number = n } };
+}
+
+impl fmt::Display for Reg {
+    ghost use Rattle.std.specs.Prelude.{◌∷◌, Some, decimal};
+
+    ghost output = { λ r. Some (36 ∷ decimal r) };
+
+    // As `$31`: a dollar sign and the number, as sources have it.
+    fn fmt<W: fmt::Write>(&self, f: &mut fmt::Formatter<W>) -> fmt::Result {
+        let number = self.number;
+        write!(f, "${number}")
+    }
 }
 
 impl Reg {

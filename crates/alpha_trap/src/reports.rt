@@ -1,0 +1,92 @@
+//! A report of a late trap as one call: the kernel is entered, the handler deals with the trap, the kernel is left.
+
+ghost use Rattle.std.specs.Prelude.{◌≡◌, IsTrue, Some, None, true, IfOk, IfErr, OnErr};
+ghost use Rattle.alpha_pal.specs.Kernel.{arith_frame, entered};
+ghost use Rattle.alpha_trap.specs.CodeAlone.{code_alone};
+ghost use Rattle.alpha_trap.specs.Handler.{going_on, kernel_after, reported};
+
+use crate::{Lost, handle, handle_words, laws_of_reports};
+use alpha_image::Image;
+use alpha_pal::Kernel;
+use alpha_words::{Completion, Reg, RegFile, RegSet};
+
+/// Reports a trap at an address, with the registers that it may have spoilt: enters the kernel
+/// ([`Kernel::enter_arith`]), has [`handle`] deal with the trap, and is in user mode again. The answer is the
+/// address to go on at, and the registers are as the trap's completion leaves them.
+///
+/// # Errors
+///
+/// `Lost`, with that address and these registers, exactly where [`scan_back`](crate::scan_back) finds no instruction.
+/// The registers are as they were.
+pub fn report(
+    image: &Image,
+    kernel: &mut Kernel,
+    regs: &mut RegFile,
+    pc: u64,
+    mask: RegSet,
+    completion: Completion,
+) -> Result<u64, Lost>
+    requires { IsTrue kernel.old.user }
+    ensures done { IfOk result (λ next.
+        reported image.now completion pc mask regs.old ≡ Some (going_on next regs.new)) }
+    ensures state { IfOk result (λ next. kernel.new
+        ≡ kernel_after (entered (arith_frame pc regs.old) regs.old) (going_on next regs.new)) }
+    ensures lost { IfErr result (λ lost. lost ≡ record { trap_pc = pc; mask = mask }) }
+    ensures cause { OnErr result (reported image.now completion pc mask regs.old ≡ None) }
+    ensures same { OnErr result (regs.new ≡ regs.old) }
+    ensures left { OnErr result (kernel.new
+        ≡ record (entered (arith_frame pc regs.old) regs.old) { user = true }) }
+    ensures user { IsTrue kernel.new.user }
+{
+    laws_of_reports();
+    // A read tells the proof that there are 32 registers.
+    let _zero = regs.get(Reg::ZERO);
+    kernel.enter_arith(regs, pc, mask);
+    match handle(image, kernel, regs, completion) {
+        Ok(next) => Ok(next),
+        Err(lost) => {
+            kernel.rti(regs);
+            Err(lost)
+        }
+    }
+}
+
+/// Reports a trap as [`report`] does, in words whose first one has this address.
+///
+/// # Errors
+///
+/// `Lost`, with that address and these registers, exactly where [`scan_words`](crate::scan_words) finds no
+/// instruction. The registers are as they were.
+pub fn report_words(
+    words: &[u32],
+    base: u64,
+    kernel: &mut Kernel,
+    regs: &mut RegFile,
+    pc: u64,
+    mask: RegSet,
+    completion: Completion,
+) -> Result<u64, Lost>
+    requires { IsTrue kernel.old.user }
+    ensures done { IfOk result (λ next. reported (code_alone words.now base) completion pc mask regs.old
+        ≡ Some (going_on next regs.new)) }
+    ensures state { IfOk result (λ next. kernel.new
+        ≡ kernel_after (entered (arith_frame pc regs.old) regs.old) (going_on next regs.new)) }
+    ensures lost { IfErr result (λ lost. lost ≡ record { trap_pc = pc; mask = mask }) }
+    ensures cause { OnErr result (reported (code_alone words.now base) completion pc mask regs.old ≡ None) }
+    ensures same { OnErr result (regs.new ≡ regs.old) }
+    ensures left { OnErr result (kernel.new
+        ≡ record (entered (arith_frame pc regs.old) regs.old) { user = true }) }
+    ensures user { IsTrue kernel.new.user }
+{
+    laws_of_reports();
+    // A read tells the proof that there are 32 registers.
+    let _zero = regs.get(Reg::ZERO);
+    kernel.enter_arith(regs, pc, mask);
+    match handle_words(words, base, kernel, regs, completion) {
+        Ok(next) => Ok(next),
+        Err(lost) => {
+            kernel.rti(regs);
+            Err(lost)
+        }
+    }
+}
