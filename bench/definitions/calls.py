@@ -193,6 +193,51 @@ class Checked:
         return "" if other == {True} else "other words"
 
 
+class Listed:
+    name, about = "clauses of dis", "`listed` of calls of the program as they were, and with something else"
+    counts = {"sample": 15, "whole": 300}
+    is_quick = False
+    # What the call replied of FILE, by its content, and with which status, output and notes, and whether the clause
+    # holds.
+    WAYS = (("as it was", True), ("told", True), ("pieces", True), ("memory", True), ("sink", True), ("words", True),
+            ("another", False), ("twice", False), ("cut", False), ("more", False), ("none", False), ("refused", False),
+            ("output", False), ("front", False), ("notes", False), ("fault", False))
+    STATUSES = {"memory": ("NoMemory",), "sink": ("SinkFault",), "refused": ("ShelfFault",)}
+
+    def cases(self, chooser, count, asked):
+        for n in range(count):
+            whole = drawn.program(chooser, n % 2 == 0)
+            yield whole, asked.call("dis", "FILE", FILE=whole.spelled())
+
+    def difference(self, d, case):
+        whole, (number, out, notes) = case
+        d.forget()
+        content = tuple(whole.spelled())
+        halves = (content[:-1], content[-1:])
+        d.given(images=[parts_of(whole)], names=words_of(*NAMES), pieces=[(content,), halves, (content + (0,),)])
+        if number != 0:
+            return f"{whole.spelled().hex()}: status {number}"
+        for way, wanted in self.WAYS:
+            words = words_of(b"check" if way == "words" else b"dis", b"FILE")
+            found = d("alpha_cmd.Listed.Listed")(words, *self.call(d, way, content, halves, out, notes))
+            if found != wanted:
+                return f"{way} of {whole.spelled().hex()}: {found}, and {wanted} is wanted"
+        return ""
+
+    def call(self, d, way, content, halves, out, notes):
+        whole = pieces_of(b"FILE", (content, ()))
+        replies = {"pieces": pieces_of(b"FILE", (*halves, ())), "another": pieces_of(b"other", (content, ())),
+                   "twice": whole * 2,
+                   "cut": whole[:1], "more": pieces_of(b"FILE", (content + (0,), ())), "none": (),
+                   "words": ()}.get(way, whole)
+        files = told({b"FILE": bytes(content)}) if way == "told" else NONE
+        out = {"output": out + b"x", "front": out[:-1], "memory": b"", "sink": out[:9]}.get(way, out)
+        before = (("Kept", tuple(b"FILE"), (1,), True),)
+        changed = {"old_shelf": Device(files, replies=before), "new_shelf": Device(files, replies=before + replies),
+                   "new_out": Device(some((9, *out)), int(way == "fault"))}
+        return self.STATUSES.get(way, DONE), call_of(d, {}, b"", b"", out, notes + b"x" * (way == "notes"), **changed)
+
+
 class Spoken:
     name, about = "words of commands", "what words ask for: worked ones, and random ones as the program takes them"
     counts = {"sample": 160, "whole": 4_000}

@@ -4,7 +4,8 @@
 READ = 3
 CLAUSES = [("alpha_restart", "laws_of_restarts", "accepted"), ("alpha_cmd", "alpha_top", "checked"),
            ("alpha_cmd", "alpha_top", "ran"), ("alpha_cmd", "alpha_top", "alike"),
-           ("alpha_cmd", "alpha_top", "restarts"), ("alpha_cmd", "alpha_top", "ran_told")]
+           ("alpha_cmd", "alpha_top", "restarts"), ("alpha_cmd", "alpha_top", "ran_told"),
+           ("alpha_cmd", "alpha_top", "listed")]
 # Definitions of answers, which are run beside those.
 ANSWERS = [("Rattle.alpha_cmd.specs.Commands.Imprecise", "answer_imprecise"),
            ("Rattle.alpha_cmd.specs.Commands.Imprecise", "run_by")]
@@ -20,9 +21,10 @@ DOMAINS = {
     "RestartsFrom.steps": "given['steps']",
     "ReadsImage.image": "given['images']", "IsReadWhole.pieces": "given['pieces']",
     "RanTold.image": "given['images']", "Alike.image": "given['images']", "EndsWhere.image": "given['images']",
+    "ListsFile.image": "given['images']",
     # The file is one of the words.
     "Ran.file": "{words}", "Alike.file": "{words}", "Checked.file": "{words}", "Restarts.file": "{words}",
-    "RanTold.file": "{words}",
+    "RanTold.file": "{words}", "Listed.file": "{words}",
     "Alike.options": "given['options']", "HaveWords.bytes": "given['file_bytes']",
     "IsRunEnd.end": "data.ends({status})", "RunByReads.events": "given['events']",
     # The replies to some calls stand behind those before them: they are a front of what is new there.

@@ -1,6 +1,7 @@
 -- A run of what was read has a run's end, but for a failure on the way.
 use Rattle.std.proofs.Common.{◌≡◌, ◌∙◌, ◌⊎◌, ℕ, true, false, List, Bool, None, Result, refl, sym, ap, subst, inl, inr}
-use Rattle.std.proofs.Common.{⊎_elim}
+use Rattle.std.proofs.Common.{⊎_elim, ◌%◌, ◌^◌}
+use Rattle.alpha_io.specs.SinkChange.{SinkChange}
 use Rattle.alpha_io.specs.declared.Failed.{Failed}
 use Rattle.alpha_io.specs.ShelfChange.{ShelfChange}
 use Rattle.alpha_io.specs.History.{Reply, IsReadWhole}
@@ -9,10 +10,14 @@ use Rattle.alpha_image.specs.Parts.{Parts, IsImage, image_spelling}
 use Rattle.alpha_image.specs.ImageFault.{first_fault}
 use Rattle.alpha_image.proofs.Spelled.{one_image, first_fault-image_spelling}
 use Rattle.alpha_shadow.specs.Broken.{IsAccepted}
+use Rattle.alpha_request.specs.declared.request.ImageCommand.{ImageCommand}
+use Rattle.alpha_request.specs.declared.request.ImageCommand.TheVariants as images
 use Rattle.alpha_request.specs.Command.{Command, of_image, make, link, replay, record_run, run, imprecise, trial}
 use Rattle.alpha_request.specs.Origin.{Origin, seed, file}
 use Rattle.alpha_request.specs.declared.options.RunOptions.{RunOptions}
 use Rattle.alpha_pal.specs.declared.fault.Fault.{Fault}
+use Rattle.alpha_seq.specs.Devices.{Drawn}
+use Rattle.alpha_imprecise.specs.ChosenRun.{end_of_imprecise_event, lost_trap}
 use Rattle.alpha_cmd.specs.declared.decision.Decision.{Decision}
 use Rattle.alpha_cmd.specs.declared.status.Status.{Status}
 use Rattle.alpha_cmd.specs.declared.status.Status.TheVariants.{InputFault, SinkFault, NoMemory}
@@ -25,8 +30,10 @@ use Rattle.alpha_cmd.specs.Answer.{Answer}
 use Rattle.alpha_cmd.specs.Image.{Spells}
 use Rattle.alpha_cmd.specs.Decision.{SaysStop, IsCutShort}
 use Rattle.alpha_cmd.specs.Ends.{status_in}
-use Rattle.alpha_cmd.specs.Ran.{IsRunEnd, FailsOnTheWay, EndsWhere}
-use Rattle.alpha_cmd.specs.RunsAsked.{EndsAsRun}
+use Rattle.alpha_cmd.specs.Commands.Imprecise.{Plan}
+use Rattle.alpha_cmd.specs.PlanRead.{ReadsWords, IsPlanRead}
+use Rattle.alpha_cmd.specs.Ran.{FailsOnTheWay, end_on}
+use Rattle.alpha_cmd.specs.RunsAsked.{EndsAsRun, EndsOf, EndsPlan, EndsWherePlan, DecidesPlan}
 use Rattle.alpha_cmd.proofs.CutShort.{cut_status}
 
 -- ---- an image that was read
@@ -53,40 +60,75 @@ read_accepted old new name found image read good whole accepted =
     (one_image image found good read.0
     (one_file old new name (image_spelling image) (image_spelling found) whole read.1)) accepted
 
+-- where a seed gives the words nothing but the image is read
+pub seeded_read : (old new : List Reply) (choices : Origin) (name : List ℕ) (plan : Plan) (n : ℕ) → choices ≡ seed n
+    → IsPlanRead old new choices name plan → IsImage plan.image × IsReadWhole old new name (image_spelling plan.image)
+seeded_read old new choices name plan n seeds is =
+    let words : ReadsWords (seed n) is.middle new plan.ahead =
+    subst (λ (o : Origin). ReadsWords o is.middle new plan.ahead) seeds is.words in
+    (is.good, subst (λ (s : List Reply). IsReadWhole old s name (image_spelling plan.image)) (sym words.0) is.read)
+
+-- ---- ends
+
+-- the status of what was decided of a plan
+pub plan_ends : (options : RunOptions) (force : Bool) (plan : Plan) (decision : Decision) (d : Drawn)
+    (out sink : SinkChange) → DecidesPlan options force plan decision d out sink → EndsPlan force decision.status
+plan_ends options false plan decision d out sink h = (end_on h.1.ran, h.1.status_is)
+plan_ends options true plan decision d out sink h = (
+  end_of_imprecise_event h.0.ran.run.at.last_event,
+  (lost_trap h.0.ran.run.at.last_event, (h.0.ran.run.drawn % 2 ^ 64, tt, h.0.status_is)),
+)
+
 -- ---- failures
 
 -- a stage that memory ran out for
-pub memory_fails : (stop : Stop) (d : Decision) → SaysStop stop d → stop ≡ OfStatus NoMemory
-    → IsRunEnd d.status ⊎ FailsOnTheWay d.status
-memory_fails stop d says is = inr (inl (ap (λ (a : Answer). a.status) (says None) ∙ ap stop_status is))
+pub memory_said : (stop : Stop) (d : Decision) → SaysStop stop d → stop ≡ OfStatus NoMemory → d.status ≡ NoMemory
+memory_said stop d says is = ap (λ (a : Answer). a.status) (says None) ∙ ap stop_status is
+
+pub memory_fails : (End : Type 0) (stop : Stop) (d : Decision) → SaysStop stop d → stop ≡ OfStatus NoMemory
+    → End ⊎ FailsOnTheWay d.status
+memory_fails End stop d says is = inr (inl (memory_said stop d says is))
 
 -- a run that was cut short
-pub cut_fails : (fault : Fault) (r : Result Decision Failed) → IsCutShort fault r
-    → IsRunEnd (status_in r) ⊎ FailsOnTheWay (status_in r)
-cut_fails fault r says =
+pub cut_fails : (End : Type 0) (fault : Fault) (r : Result Decision Failed) → IsCutShort fault r
+    → End ⊎ FailsOnTheWay (status_in r)
+cut_fails End fault r says =
     ⊎_elim (λ (e : status_in r ≡ InputFault). inr (inr (inl e))) (λ (e : status_in r ≡ SinkFault). inr (inr (inr e)))
     (cut_status fault r says)
 
 -- ---- a row a command
 
--- by the choices, and by whether the verdict is passed over
+-- by the choices
 pub imprecise_ends : (options : RunOptions) (choices : Origin) (force : Bool) (name : List ℕ) (status : Status)
     (s : ShelfChange)
-    → ((n : ℕ) → choices ≡ seed n → force ≡ false → EndsWhere (λ image. IsAccepted image.words) name status s)
+    → ((n : ℕ) → choices ≡ seed n → EndsWherePlan force name status s)
     → EndsAsRun (imprecise options choices force name) status s
-imprecise_ends options (seed n) false name status s h = h n refl refl
-imprecise_ends options (seed n) true name status s h = tt
+imprecise_ends options (seed n) force name status s h = h n refl
 imprecise_ends options (file list) force name status s h = tt
 
--- a command that failed on the way
-pub failed_ends : (command : Command) (status : Status) (s : ShelfChange) → FailsOnTheWay status
+-- memory ran out or a sink failed
+abbrev pub FailsAlways : Status → Type 0
+FailsAlways status = (status ≡ NoMemory) ⊎ (status ≡ SinkFault)
+
+on_the_way : (status : Status) → FailsAlways status → FailsOnTheWay status
+on_the_way status (inl e) = inl e
+on_the_way status (inr e) = inr (inr e)
+
+-- by what is asked of an image
+pub failed_of : (command : ImageCommand) (status : Status) → FailsAlways status → EndsOf command status
+failed_of images.Check status fails = tt
+failed_of images.Dis status fails = inr fails
+failed_of images.Debug status fails = inr (on_the_way status fails)
+
+-- a command that failed so
+pub failed_ends : (command : Command) (status : Status) (s : ShelfChange) → FailsAlways status
     → EndsAsRun command status s
-failed_ends (run options name) status s fails = λ image good has read. inr fails
-failed_ends (imprecise options (seed m) false name) status s fails = λ image good accepted read. inr fails
-failed_ends (imprecise options (seed m) true name) status s fails = tt
+failed_ends (of_image command name) status s fails = λ image good read. failed_of command status fails
+failed_ends (run options name) status s fails = λ image good has read. inr (on_the_way status fails)
+failed_ends (imprecise options (seed m) force name) status s fails =
+    λ image good accepted read. inr (on_the_way status fails)
 failed_ends (imprecise options (file list) force name) status s fails = tt
-failed_ends (of_image what name) status s fails = tt
-failed_ends (make what name made) status s fails = tt
+failed_ends (make command name made) status s fails = tt
 failed_ends (link entry made names) status s fails = tt
 failed_ends (replay name journal) status s fails = tt
 failed_ends (record_run options choices force name made) status s fails = tt
@@ -96,5 +138,5 @@ failed_ends (trial blocks) status s fails = tt
 pub delivered_ends : (command : Command) (status decided : Status) (s : ShelfChange)
     → (status ≡ SinkFault) ⊎ (status ≡ decided)
     → EndsAsRun command decided s → EndsAsRun command status s
-delivered_ends command status decided s (inl e) h = failed_ends command status s (inr (inr e))
+delivered_ends command status decided s (inl e) h = failed_ends command status s (inr e)
 delivered_ends command status decided s (inr e) h = subst (λ (x : Status). EndsAsRun command x s) (sym e) h

@@ -9,14 +9,12 @@ use Rattle.alpha_io.specs.Written.{WritesPrefix}
 use Rattle.alpha_request.specs.declared.options.RunOptions.{RunOptions}
 use Rattle.alpha_seq.specs.declared.event.Event.{Event as SeenEvent}
 use Rattle.alpha_pal.specs.declared.fault.Fault.{Fault}
-use Rattle.alpha_seq.specs.State.{Program, Went}
+use Rattle.alpha_seq.specs.State.{Program}
 use Rattle.alpha_seq.specs.Start.{start}
-use Rattle.alpha_seq.specs.declared.end.End.{End}
-use Rattle.alpha_seq.specs.declared.end.End.TheVariants as ends
 use Rattle.alpha_seq.specs.Run.{end_of, output, notes as notes_of, sequential}
 use Rattle.alpha_seq.specs.Machine.{program_of}
 use Rattle.alpha_seq.specs.Devices.{Drawn, LeavesEnd, drawn as drawn_in}
-use Rattle.alpha_imprecise.specs.StepResult.{ImpreciseEvent, Precisely, StepResult}
+use Rattle.alpha_imprecise.specs.StepResult.{ImpreciseEvent, StepResult}
 use Rattle.alpha_imprecise.specs.Run.{seen, imprecise_start, RunsImprecisely, units}
 use Rattle.alpha_imprecise.specs.Used.{HasUsed}
 use Rattle.alpha_imprecise.specs.Chosen.{Draws}
@@ -33,7 +31,7 @@ use Rattle.alpha_imprecise.proofs.Exactly.{told_words, drawn_exactly}
 use Rattle.alpha_imprecise.proofs.Fresh.{step_result_of-IsFresh, begun_fresh, told_starts}
 use Rattle.alpha_imprecise.proofs.ShownRuns.{runs_alike}
 use Rattle.alpha_restart.proofs.Agreement.{accepted_restarts}
-use Rattle.alpha_run.specs.ImpreciseRan.{moment_at, ended_as, ImprecisePrefixRun}
+use Rattle.alpha_run.specs.ImpreciseRan.{moment_at, ImprecisePrefixRun}
 use Rattle.alpha_run.proofs.ImpreciseShown.{drawn_from_none, WholeRun, used_all, few_drawn, told_from, cut_any, few_cut}
 use Rattle.alpha_run.proofs.ImpreciseShown.{cut_from}
 use Rattle.alpha_cmd.specs.declared.decision.Decision.{Decision}
@@ -41,10 +39,10 @@ use Rattle.alpha_cmd.specs.declared.devices.Devices.{Devices}
 use Rattle.alpha_cmd.specs.Outcome.{continues}
 use Rattle.alpha_cmd.specs.Answer.{Answer}
 use Rattle.alpha_cmd.specs.Drawn.{but_drawn}
-use Rattle.alpha_cmd.specs.RunsAsked.{DecidesRun}
-use Rattle.alpha_cmd.specs.RunAnswer.{run_status, run_line, program_by}
-use Rattle.alpha_cmd.specs.Commands.Imprecise.{Plan, plan_by, MayRun, with_drawn, begins_plan, MadeByReads}
-use Rattle.alpha_cmd.specs.Commands.Imprecise.{MayShowImprecise}
+use Rattle.alpha_cmd.specs.ImpreciseRan.{DecidesImprecise}
+use Rattle.alpha_cmd.specs.RunsAsked.{DecidesRun, DecidesPlan}
+use Rattle.alpha_cmd.specs.RunAnswer.{program_by}
+use Rattle.alpha_cmd.specs.Commands.Imprecise.{plan_by, MayRun, with_drawn, begins_plan, MadeByReads, MayShowImprecise}
 use Rattle.alpha_cmd.specs.Commands.Imprecise.{imprecise_status, imprecise_line, answer_status, answer_line}
 use Rattle.alpha_cmd.specs.Commands.Imprecise.{answer_imprecise, kind}
 use Rattle.alpha_cmd.specs.Commands.Imprecise.{on}
@@ -54,35 +52,9 @@ use Rattle.alpha_cmd.specs.Decision.{answer_in}
 use Rattle.alpha_cmd.specs.CommandEffect.{CommandEffect}
 use Rattle.alpha_cmd.proofs.Commands.Imprecise.{MayShowImprecise-MayLose}
 use Rattle.alpha_cmd.proofs.CutShort.{AttemptPrefixes}
+use Rattle.alpha_cmd.proofs.ImpreciseEnds.{line_by, may_alone, same_line, status_by, undrawn_status}
 use Rattle.alpha_cmd.proofs.StreamedWrites.{streamed_devices, does_whole}
 use Rattle.alpha_cmd.proofs.HasShown.{HasShown, made_same, reads_show}
-
--- ---- the status and the line of a run's end
-
-status_by : (h : ImpreciseEvent) (n : ℕ)
-    → answer_status (ended_as h) n ≡ imprecise_status (end_of_imprecise_event h) (lost_trap h) n
-status_by (Precisely Went) n = refl
-status_by (Precisely event) n = refl
-status_by moment n = refl
-
-line_by : (h : ImpreciseEvent) → answer_line (ended_as h) ≡ imprecise_line (end_of_imprecise_event h) (lost_trap h)
-line_by (Precisely Went) = refl
-line_by (Precisely event) = refl
-line_by moment = refl
-
--- where no trap was lost they are those of the sequential run, but for the number of words
-undrawn_status : (end : Option End) (n : ℕ) → but_drawn (imprecise_status end None n) ≡ run_status end
-undrawn_status None n = refl
-undrawn_status (Some (ends.Exit v)) n = refl
-undrawn_status (Some end) n = refl
-
-same_line : (end : Option End) → imprecise_line end None ≡ run_line end
-same_line None = refl
-same_line (Some end) = refl
-
--- whatever words are drawn, its runs are those of the sequential machine
-pub may_alone : (force : Bool) (plan : Plan) → MayRun force plan → force ≡ false → IsRestartable plan.image
-may_alone force plan (fine, good) judges = accepted_restarts plan.image fine (good judges)
 
 module _ (options : RunOptions) (m : ImpreciseState) (ahead : ℕ → ℕ)
     (same_completion : m.machine.completion ≡ options.complete)
@@ -277,7 +249,7 @@ module _ (options : RunOptions) (m : ImpreciseState) (ahead : ℕ → ℕ)
         }
 
     -- it is a run of the sequential machine, where the program can be restarted
-    pub imprecise-DecidesAsked : (drawn : ℕ) → IsRestartable m.machine.image → (decision : Decision)
+    imprecise-DecidesAsked : (drawn : ℕ) → IsRestartable m.machine.image → (decision : Decision)
         → ((left : Option (List ℕ))
         → answer_in left decision ≡ status_answer left (answer_status last drawn) (answer_line last))
         → DecidesRun options m.machine.image decision d out notes
@@ -303,6 +275,47 @@ module _ (options : RunOptions) (m : ImpreciseState) (ahead : ℕ → ℕ)
           put = w.ran.wrote;
           noted = w.ran.noted;
         }
+
+    -- it is a run of the imprecise machine by these words
+    seeded_made : (drawn : ℕ) → before.count ≡ Some 0 → after.count ≡ Some drawn → drawn < 2 ^ 64
+        → (decision : Decision)
+        → ((left : Option (List ℕ))
+        → answer_in left decision ≡ status_answer left (answer_status last drawn) (answer_line last))
+        → DecidesImprecise options (plan_by m.machine.image ahead) decision d out notes
+    unfolding by_reads
+    seeded_made drawn none now low decision says =
+        let made = by_reads last rest new before after d out notes w tells in
+        let end = end_of_imprecise_event w.last_event in
+        let lost = lost_trap w.last_event in
+        let e = says None in
+        let all = drawn_from_none before.count after.count drawn (length w.ran.words) none now w.ran.drew.counted in
+        let many : drawn ≡ length w.ran.words % 2 ^ 64 = omega (arith, all, low) in
+        record {
+          ran = record { run = made; answers = w.ran.fed.answers };
+          status_is =
+              ap (λ (a : Answer). a.status) e
+              ∙ (ap (λ (o : Option SeenEvent). answer_status o drawn) w.last_is
+              ∙ (status_by w.last_event drawn ∙ ap (imprecise_status end lost) many));
+          no_more = ap (λ (a : Answer). a.output) e;
+          line_is = ap (λ (a : Answer). a.line) e ∙ (ap answer_line w.last_is ∙ line_by w.last_event);
+          put = w.ran.wrote;
+          noted = w.ran.noted;
+        }
+
+    -- by whether the verdict is passed over
+    pub made_by_words : (force : Bool) (drawn : ℕ) → before.count ≡ Some 0 → after.count ≡ Some drawn → drawn < 2 ^ 64
+        → MayRun force (plan_by m.machine.image ahead) → (decision : Decision)
+        → ((left : Option (List ℕ))
+        → answer_in left decision ≡ status_answer left (answer_status last drawn) (answer_line last))
+        → DecidesPlan options force (plan_by m.machine.image ahead) decision d out notes
+    made_by_words false drawn none now low may decision says = (
+      may.1 refl,
+      imprecise-DecidesAsked drawn (may_alone false (plan_by m.machine.image ahead) may refl) decision says,
+    )
+    made_by_words true drawn none now low may decision says = (
+      seeded_made drawn none now low decision says,
+      λ accepted. imprecise-DecidesAsked drawn (accepted_restarts m.machine.image may.0 accepted) decision says,
+    )
 
     pub ran_shows : (force : Bool) (drawn : ℕ) → before.count ≡ Some 0 → after.count ≡ Some drawn → drawn < 2 ^ 64
         → (force ≡ false → IsRestartable m.machine.image)

@@ -1,14 +1,12 @@
 -- From what a run with its journal did to what is done of a plan by it.
-use Rattle.std.proofs.Common.{◌≡◌, ◌⊎◌, ◌++◌, ◌∷◌, ◌∙◌, ◌<◌, ◌≤◌, ◌+◌, ◌-◌, length, ℕ, ◌^◌, Bool, true, false, List, []}
-use Rattle.std.proofs.Common.{Option, None, Some, IfSome, option_map, Ok, refl, sym, ap, subst, inl, inr, arith}
-use Rattle.std.specs.Io.KnownBytes.{Appends}
-use Rattle.std.proofs.KnownBytes.{Appends-nil}
+use Rattle.std.proofs.Common.{◌≡◌, ◌⊎◌, ◌++◌, ◌∷◌, ◌∙◌, ◌<◌, ◌≤◌, ◌+◌, ◌-◌, ◌%◌, ◌^◌, length, ℕ, Bool, true, false}
+use Rattle.std.proofs.Common.{List, [], Option, None, Some, IfSome, option_map, Ok, refl, sym, ap, subst, inl, inr}
+use Rattle.std.proofs.Common.{arith}
 use Rattle.alpha_io.specs.Supply.{Supply}
 use Rattle.alpha_io.specs.declared.shelf.Shelf as shelves
 use Rattle.alpha_io.specs.declared.source.Source as sources
 use Rattle.alpha_io.specs.declared.sink.Sink as sinks
-use Rattle.alpha_io.specs.Files.{KeepsFiles}
-use Rattle.alpha_io.specs.ShelfChange.{ShelfChange, shelf_change}
+use Rattle.alpha_io.specs.ShelfChange.{shelf_change}
 use Rattle.alpha_io.specs.SinkChange.{SinkChange, sink_change, Puts}
 use Rattle.alpha_io.proofs.ShelfLaws.{KeepsFiles-refl}
 use Rattle.alpha_io.specs.Written.{WritesPrefix}
@@ -23,6 +21,7 @@ use Rattle.alpha_imprecise.specs.StepResult.{ImpreciseEvent}
 use Rattle.alpha_imprecise.specs.Run.{seen, RunsImprecisely, units}
 use Rattle.alpha_imprecise.specs.Chosen.{waits_behind, Draws}
 use Rattle.alpha_imprecise.specs.ChosenRun.{ChosenRun, ShownImprecise, shown_chosen_run, first_words, most_words}
+use Rattle.alpha_imprecise.specs.ChosenRun.{end_of_imprecise_event, lost_trap}
 use Rattle.alpha_imprecise.specs.Restart.{IsRestartable}
 use Rattle.alpha_imprecise.specs.Oracle.{Oracle}
 use Rattle.alpha_imprecise.specs.ImpreciseState.{ImpreciseState, IsFresh, step_result_of, waited_in}
@@ -30,8 +29,8 @@ use Rattle.alpha_imprecise.proofs.Exactly.{told_words}
 use Rattle.alpha_imprecise.proofs.Fresh.{told_starts}
 use Rattle.alpha_imprecise.proofs.Sequence.{RunsImprecisely-append, units_of_steps-append}
 use Rattle.alpha_run.specs.ImpreciseRan.{moment_at}
-use Rattle.alpha_run.proofs.ImpreciseShown.{few_cut, prefix-RunsImprecisely, prefix-Draws, prefix-WritesPrefix}
-use Rattle.alpha_run.proofs.ImpreciseShown.{Draws-append}
+use Rattle.alpha_run.proofs.ImpreciseShown.{drawn_from_none, few_cut, prefix-RunsImprecisely, prefix-Draws}
+use Rattle.alpha_run.proofs.ImpreciseShown.{prefix-WritesPrefix, Draws-append}
 use Rattle.alpha_words.specs.declared.Completion.{Completion}
 use Rattle.alpha_replay.specs.Journal.{Parts}
 use Rattle.alpha_replay.specs.Journaled.{journal_of, is_within, stops_at, GoesOver}
@@ -46,54 +45,24 @@ use Rattle.alpha_cmd.specs.Answer.{Answer}
 use Rattle.alpha_cmd.specs.AnswerBy.{World, status_answer, world}
 use Rattle.alpha_cmd.specs.Decision.{answer_in, SaysAlone}
 use Rattle.alpha_cmd.specs.CommandEffect.{CommandEffect}
-use Rattle.alpha_cmd.specs.Ends.{Leaves}
 use Rattle.alpha_cmd.specs.Outcome.{continues}
 use Rattle.alpha_cmd.specs.Status.{status_line}
 use Rattle.alpha_cmd.specs.RunAnswer.{program_by}
-use Rattle.alpha_cmd.specs.Commands.Imprecise.{plan_by, begins_plan, answer_status, answer_line}
+use Rattle.alpha_cmd.specs.Commands.Imprecise.{plan_by, begins_plan, MayRun, imprecise_status, answer_status}
+use Rattle.alpha_cmd.specs.Commands.Imprecise.{answer_line}
+use Rattle.alpha_cmd.specs.RecordRan.{DecidesRecord}
 use Rattle.alpha_cmd.specs.Commands.Record.{unwatched, RecordedByReads, HasItsJournal, IsStopped, full_answer, on}
 use Rattle.alpha_cmd.specs.Commands.Record.{RunsOn}
 use Rattle.alpha_cmd.proofs.CutShort.{AttemptPrefixes}
-use Rattle.alpha_cmd.proofs.CallEndings.{IsLeft-own}
+use Rattle.alpha_cmd.proofs.JournalUnbegun.{unbegun_tried}
 use Rattle.alpha_cmd.proofs.Commands.Record.{HasAnswer, recorded_by, kept_answer, stopped_answer, untold_answer}
 use Rattle.alpha_cmd.proofs.Commands.Record.{some_end}
 use Rattle.alpha_cmd.proofs.JournalStatus.{over_takes}
 use Rattle.alpha_cmd.proofs.StreamedWrites.{streamed_devices, does_stream, does_whole}
 use Rattle.alpha_cmd.proofs.AttemptsByForm.{starts_not}
 use Rattle.alpha_cmd.proofs.HasShown.{HasShown}
+use Rattle.alpha_cmd.proofs.ImpreciseEnds.{status_by, line_by}
 use Rattle.alpha_cmd.proofs.ImpreciseRan.{ran_shows_of, BeginsImprecisely, same_program, begun_plan-subst}
-
--- a sink that wasn't called
-idle_puts : (s : SinkChange) → Idles s → Puts s []
-idle_puts s idle = record {
-  written = subst (λ (l : Option (List ℕ)). Appends s.old l []) (sym idle.written) (Appends-nil s.old);
-  same = idle.same;
-}
-
--- a call without memory, which has touched no device
-pub unbegun_tried : (P : Answer → Type 0) (w : World) (rest : Answer)
-    (d : Drawn) (s : ShelfChange) (out notes : SinkChange)
-    → P (status_answer w.input NoMemory (status_line NoMemory)) → KeepsFiles s.old s.new
-    → d.old.left ≡ w.input → Rests d → Idles out → Idles notes
-    → rest ≡ status_answer d.new.left NoMemory (status_line NoMemory) → Leaves P rest s out notes
-unbegun_tried P w rest d s out notes is same told rests put noted e =
-    let left : d.new.left ≡ w.input = ap (λ (s : Supply). s.left) rests.left ∙ told in
-    subst (λ (x : Answer). Leaves P x s out notes) (sym e)
-    (record {
-      tried = status_answer w.input NoMemory (status_line NoMemory);
-      is = is;
-      status_is = refl;
-      left_is =
-          subst (λ (l : Option (List ℕ)). IfSome w.input (λ rest. l ≡ Some rest)) (sym left)
-          (IsLeft-own (status_answer w.input NoMemory (status_line NoMemory)));
-      files = same;
-      output = [];
-      put = idle_puts out put;
-      output_is = refl;
-      trace = [];
-      noted = idle_puts notes noted;
-      notes_are = refl;
-    })
 
 module _ (options : RunOptions) (m : ImpreciseState) (ahead : ℕ → ℕ)
     (same_completion : m.machine.completion ≡ options.complete)
@@ -191,6 +160,43 @@ module _ (options : RunOptions) (m : ImpreciseState) (ahead : ℕ → ℕ)
         put = s.shows.bytes;
         noted = s.shows.lines;
         left_is = s.shows.left;
+      }
+
+  -- whatever its reads were given
+  pub record_decides : (force : Bool) (last : Option SeenEvent) (count : ℕ) (journal : Parts) (decision : Decision)
+      (to : ImpreciseState) (before after : Oracle) (d : Drawn) (out notes : SinkChange)
+      → Records options.steps last journal m to before after d out notes
+      → ((left : Option (List ℕ))
+      → answer_in left decision ≡ status_answer left (answer_status last count) (answer_line last))
+      → before.ahead ≡ Some ahead → before.count ≡ Some 0 → after.count ≡ Some count → count < 2 ^ 64
+      → MayRun force (plan_by m.machine.image ahead)
+      → DecidesRecord options force (plan_by m.machine.image ahead) journal decision d out notes
+  unfolding stopped_reads
+  record_decides force last count journal decision to before after d out notes r says tells none now low may =
+      let words = length r.stops.ran.words in
+      let end = end_of_imprecise_event r.last_event in
+      let lost = lost_trap r.last_event in
+      let e = says None in
+      let all = drawn_from_none before.count after.count count words none now r.stops.ran.drew.counted in
+      let many : count ≡ words % 2 ^ 64 = omega (arith, all, low) in
+      record {
+        accepted = may.1;
+        ran = record {
+          run = stopped_reads r.last_event to before after d out notes tells r.stops;
+          has = record {
+            within = r.within;
+            is = r.is ∙ ap (λ (c : Completion). journal_of c r.last_event r.stops.ran.steps) same_completion;
+          };
+          answers = r.stops.ran.fed.answers;
+        };
+        status_is =
+            ap (λ (a : Answer). a.status) e
+            ∙ (ap (λ (o : Option SeenEvent). answer_status o count) r.last_is
+            ∙ (status_by r.last_event count ∙ ap (imprecise_status end lost) many));
+        no_more = ap (λ (a : Answer). a.output) e;
+        line_is = ap (λ (a : Answer). a.line) e ∙ (ap answer_line r.last_is ∙ line_by r.last_event);
+        put = r.stops.ran.wrote;
+        noted = r.stops.ran.noted;
       }
 
   -- ---- one that was stopped

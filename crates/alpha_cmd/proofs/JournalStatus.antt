@@ -1,6 +1,7 @@
 -- The statuses of `record`, and what becomes of files under them.
 use Rattle.std.proofs.Common.{◌≡◌, ◌≢◌, ◌⊎◌, ◌∙◌, ℕ, ◌%◌, ◌^◌, Bool, true, false, List, Option, None, Some, refl, sym}
-use Rattle.std.proofs.Common.{ap, subst, inl, inr}
+use Rattle.std.proofs.Common.{ap, subst, inl, inr, Result, Ok, Err, IfOk}
+use Rattle.alpha_io.specs.declared.Failed.{Failed}
 use Rattle.alpha_io.specs.Files.{HasFile}
 use Rattle.alpha_io.specs.ShelfChange.{ShelfChange}
 use Rattle.alpha_io.specs.SinkChange.{SinkChange}
@@ -21,6 +22,8 @@ use Rattle.alpha_cmd.specs.Form.{MayTakeBy, SparesBy}
 use Rattle.alpha_cmd.specs.Stage.{StopsBy, stop_status, stop_line}
 use Rattle.alpha_cmd.specs.Status.{done, refused, ended, class_of}
 use Rattle.alpha_cmd.specs.Commands.Imprecise.{Plan, drawn_status, imprecise_status, Planned}
+use Rattle.alpha_cmd.specs.Commands.Imprecise.{IsEndStatus as IsImpreciseEnd}
+use Rattle.alpha_cmd.specs.Ends.{status_in}
 use Rattle.alpha_cmd.specs.Commands.Record.{unwatched, IsEndStatus, kind, there, RunsOn, IsOver, KeptBehind, stands}
 use Rattle.alpha_cmd.specs.Commands.Record.{untaken, lost, spent}
 use Rattle.alpha_cmd.proofs.Commands.Imprecise.{MayShowImprecise-MayLose, imprecise-plain}
@@ -70,6 +73,11 @@ over_no_end end trap n s e (inl h) = not_full end trap n (sym e ∙ h)
 over_no_end end trap n s e (inr (inl h)) = journal_status-no_end end trap n s e (inr (ap is_fault h))
 over_no_end end trap n s e (inr (inr (inl h))) = journal_status-no_end end trap n s e (inr (ap is_fault h))
 over_no_end end trap n s e (inr (inr (inr h))) = journal_status-no_end end trap n s e (inr (ap is_fault h))
+
+pub over_ran : (r : Result Decision Failed) → IsOver (status_in r) → (P : Decision → Type 0)
+    → IfOk r (λ d. IsImpreciseEnd true d.status → P d)
+over_ran (Ok d) over P = λ ends. absurd (over_no_end ends.0 ends.1.0 ends.1.1.0 d.status ends.1.1.2 over)
+over_ran (Err failed) over P = tt
 
 -- one that wasn't begun
 pub stopped_no_end : (options : RunOptions) (drawn : choices.Origin) (force : Bool) (file out : List ℕ) (w : World)

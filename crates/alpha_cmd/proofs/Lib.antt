@@ -9,6 +9,7 @@ pub mod IsFixed
 pub mod Forms
 pub mod JournalKept
 pub mod JournalRan
+pub mod JournalUnbegun
 pub mod JournalStatus
 pub mod KeptBytes
 pub mod KeptLinks
@@ -21,6 +22,7 @@ pub mod ModuleWords
 pub mod OfImage
 pub mod CallPromises
 pub mod Ran
+pub mod Ended
 pub mod EndsWhere
 pub mod RunsOnReplies
 pub mod InputFreePrograms
@@ -33,4 +35,5 @@ pub mod ToldRuns
 pub mod AttemptedBy
 pub mod AttemptsByForm
 pub mod HasShown
+pub mod ImpreciseEnds
 pub mod ImpreciseRan

@@ -1,130 +1,65 @@
 -- What is decided behind a run, by what the calls of its devices gave.
-use Rattle.std.proofs.Common.{◌≡◌, ◌≢◌, ◌∙◌, ◌⊎◌, ℕ, true, false, List, ◌++◌, Bool, Option, None, Some, Result, Ok, Err}
-use Rattle.std.proofs.Common.{IfOk, refl, sym, ap, subst, inl, inr, ⊎_elim, append-nil, arith}
+use Rattle.std.proofs.Common.{◌≡◌, ◌≢◌, ◌∙◌, ◌⊎◌, ℕ, true, false, List, [], ◌++◌, ◌∷◌, Bool, Option, None, Result}
+use Rattle.std.proofs.Common.{Ok, Err, IfOk, refl, sym, ap, subst, inl, inr, append-nil, arith}
 use Rattle.alpha_io.specs.SinkChange.{SinkChange, sink_change, Puts}
-use Rattle.alpha_io.specs.ShelfChange.{ShelfChange, shelf_change}
+use Rattle.alpha_io.specs.ShelfChange.{shelf_change}
 use Rattle.alpha_io.specs.declared.Failed.{Failed}
 use Rattle.alpha_io.specs.declared.shelf.Shelf as shelves
 use Rattle.alpha_io.specs.declared.sink.Sink.{Ghosts}
 use Rattle.alpha_io.specs.Files.{HasFile}
-use Rattle.alpha_io.specs.History.{Reply, IsReadWhole}
+use Rattle.alpha_io.specs.History.{Reply, Kept, IsReadWhole}
 use Rattle.alpha_io.proofs.Sinks.{Puts-then}
+use Rattle.alpha_dis.specs.Listing.{listing}
 use Rattle.alpha_image.specs.Parts.{Parts, IsImage, image_spelling}
-use Rattle.alpha_shadow.specs.Broken.{IsAccepted}
-use Rattle.alpha_request.specs.Command.{Command, of_image, make, link, replay, record_run, run, imprecise, trial}
+use Rattle.alpha_request.specs.declared.request.ImageCommand.{ImageCommand}
+use Rattle.alpha_request.specs.declared.request.ImageCommand.TheVariants as images
+use Rattle.alpha_request.specs.Command.{Command, of_image, dis, make, link, replay, record_run, run, imprecise, trial}
 use Rattle.alpha_request.specs.Asked.{asked}
-use Rattle.alpha_request.specs.Origin.{Origin, seed, file}
+use Rattle.alpha_request.specs.Origin.{Origin, seed}
 use Rattle.alpha_request.specs.Plain.{defaults}
+use Rattle.alpha_request.proofs.AskedBy.{asked_rows}
 use Rattle.alpha_request.proofs.PlainWords.{plain_run, plain_imprecise}
 use Rattle.alpha_request.specs.declared.options.RunOptions.{RunOptions}
-use Rattle.alpha_pal.specs.declared.fault.Fault.{Fault}
-use Rattle.alpha_seq.specs.declared.end.End.{End}
-use Rattle.alpha_seq.specs.declared.end.End.TheVariants as ends
 use Rattle.alpha_seq.specs.declared.event.Event.{Event}
 use Rattle.alpha_seq.specs.declared.machine.Machine.{Machine}
 use Rattle.alpha_seq.specs.State.{Program, State}
 use Rattle.alpha_seq.specs.Start.{start}
 use Rattle.alpha_seq.specs.Run.{begins, end_of, output, notes, Runs}
-use Rattle.alpha_seq.specs.Machine.{program_of, state_of}
+use Rattle.alpha_seq.specs.Machine.{program_of}
 use Rattle.alpha_seq.specs.Devices.{Drawn}
+use Rattle.alpha_imprecise.specs.Run.{seen}
+use Rattle.alpha_replay.specs.Journal.{Parts as Journal, IsJournal}
+use Rattle.alpha_replay.specs.Journal as journals
 use Rattle.alpha_run.specs.SeqRun.{ended_by, SeqRan}
 use Rattle.alpha_cmd.specs.declared.decision.Decision.{Decision}
 use Rattle.alpha_cmd.specs.declared.status.Status.{Status}
-use Rattle.alpha_cmd.specs.declared.status.Status.TheVariants.{Done, BadWords, ShelfFault, InputFault, SinkFault}
-use Rattle.alpha_cmd.specs.declared.status.Status.TheVariants.{NoMemory}
-use Rattle.alpha_cmd.specs.declared.stop.Stop.{Stop}
-use Rattle.alpha_cmd.specs.Status.{Class, done, refused, ended, class_of}
-use Rattle.alpha_cmd.specs.Stage.{stop_status, stop_line, StopsBy}
-use Rattle.alpha_cmd.specs.Outcome.{Outcome, continues, stops}
+use Rattle.alpha_cmd.specs.declared.status.Status.TheVariants.{SinkFault}
+use Rattle.alpha_cmd.specs.Status.{class_of}
+use Rattle.alpha_cmd.specs.Outcome.{continues}
 use Rattle.alpha_cmd.specs.Answer.{Answer}
 use Rattle.alpha_cmd.specs.AnswerBy.{status_answer}
 use Rattle.alpha_cmd.specs.Call.{Call}
 use Rattle.alpha_cmd.specs.Checked.{ReadsImage}
 use Rattle.alpha_cmd.specs.Asks.{AsksFor}
-use Rattle.alpha_cmd.specs.Commands.Imprecise.{Plan, Planned, answer_status, answer_line}
-use Rattle.alpha_cmd.specs.Decision.{answer_in, SaysStop, IsCutShort}
-use Rattle.alpha_cmd.specs.Ends.{status_in}
+use Rattle.alpha_cmd.specs.Commands.Imprecise.{Plan, Planned, IsEndStatus, answer_status, answer_line}
+use Rattle.alpha_cmd.specs.RecordRan.{ShowsRecord, DecidesRecord, ReadsAndKeeps}
+use Rattle.alpha_cmd.specs.Commands.Replay.{run_line as replay_line}
+use Rattle.alpha_cmd.specs.Decision.{answer_in}
 use Rattle.alpha_cmd.specs.Image.{ImageOf}
+use Rattle.alpha_cmd.specs.Listed.{Listed}
 use Rattle.alpha_cmd.specs.Drawn.{but_drawn}
 use Rattle.alpha_cmd.specs.RunAnswer.{run_status, run_line, program_by}
-use Rattle.alpha_cmd.specs.Ran.{ShowsRun, IsRunEnd, Ran}
-use Rattle.alpha_cmd.specs.RunsAsked.{ShowsAsked, RunsAsked, DecidesRun, DecidesAsked, WhereEnded}
+use Rattle.alpha_cmd.specs.Ran.{ShowsRun, Ran}
+use Rattle.alpha_cmd.specs.ImpreciseRan.{ShowsImprecise, DecidesImprecise}
+use Rattle.alpha_cmd.specs.PlanRead.{IsPlanRead, ReadsPlan}
+use Rattle.alpha_cmd.specs.RunsAsked.{HasEnded, ShowsOf, ShowsPlan, ShowsAsked, RunsAsked, DecidesRun, DecidesPlan}
+use Rattle.alpha_cmd.specs.RunsAsked.{DecidesOf, DecidesAsked, WhereEnded}
+use Rattle.alpha_cmd.specs.ShowsDone.{ShowsDone, DecidesDone}
 use Rattle.alpha_cmd.proofs.Commands.Imprecise.{planned_image}
-use Rattle.alpha_cmd.proofs.CutShort.{cut_status}
-use Rattle.alpha_cmd.proofs.Lawful.{IsRefusal}
+use Rattle.alpha_cmd.proofs.Ended.{drawn_end, run_end_class, sink_unended}
+use Rattle.alpha_cmd.proofs.EndsWhere.{seeded_read}
 use Rattle.alpha_cmd.proofs.Ran.{IsStarted, says_end}
 use Rattle.alpha_cmd.proofs.Stages.{IfOk-more}
-
--- ---- statuses of a run's end
-
-class_drawn : (status : Status) → class_of (but_drawn status) ≡ class_of status
-class_drawn (Done n) = refl
-class_drawn status = refl
-
-end_class : (end : Option End) → (class_of (run_status end) ≡ done) ⊎ (class_of (run_status end) ≡ ended)
-end_class None = inr refl
-end_class (Some (ends.Exit v)) = inl refl
-end_class (Some end) = inr refl
-
--- it is done or ended
-run_end_class : (status : Status) → IsRunEnd status → (class_of status ≡ done) ⊎ (class_of status ≡ ended)
-run_end_class status is =
-    let same : class_of status ≡ class_of (run_status is.0) = sym (class_drawn status) ∙ ap class_of is.1 in
-    ⊎_elim (λ (h : class_of (run_status is.0) ≡ done). inl (same ∙ h))
-    (λ (h : class_of (run_status is.0) ≡ ended). inr (same ∙ h)) (end_class is.0)
-
--- and so none of these
-pub status-not_ended : (status : Status) (class : Class) → class_of status ≡ class → (class ≡ done → ⊥)
-    → (class ≡ ended → ⊥) → IsRunEnd status → ⊥
-status-not_ended status class here not_done not_ended is =
-    ⊎_elim (λ (h : class_of status ≡ done). not_done (sym here ∙ h))
-    (λ (h : class_of status ≡ ended). not_ended (sym here ∙ h)) (run_end_class status is)
-
-pub memory_unended : IsRunEnd NoMemory → ⊥
-memory_unended is = status-not_ended NoMemory (class_of NoMemory) refl (λ h. cc) (λ h. cc) is
-
-pub sink_unended : IsRunEnd SinkFault → ⊥
-sink_unended is = status-not_ended SinkFault (class_of SinkFault) refl (λ h. cc) (λ h. cc) is
-
-pub drawn_end : (end : Option End) → but_drawn (run_status end) ≡ run_status end
-drawn_end None = refl
-drawn_end (Some (ends.Exit v)) = refl
-drawn_end (Some end) = refl
-
--- a stage that stopped isn't a run's end
-stop_unended : {X : Type 0} (R : Outcome X → Type 0) (shelf : Type 0)
-    → ((s : Status) (line : List ℕ) → R (stops s line) → IsRefusal ⊥ s)
-    → (stop : Stop) → StopsBy R shelf stop → IsRunEnd (stop_status stop) → ⊥
-stop_unended R shelf plain stop (inl h) is =
-    ⊎_elim (λ (no : class_of (stop_status stop) ≡ refused).
-    status-not_ended (stop_status stop) refused no (λ e. cc) (λ e. cc) is)
-    (λ (no : (stop_status stop ≡ ShelfFault) × (⊥ → ⊥)).
-    status-not_ended (stop_status stop) (class_of ShelfFault) (ap class_of no.0) (λ e. cc) (λ e. cc) is)
-    (plain (stop_status stop) (stop_line stop) h)
-stop_unended R shelf plain stop (inr (inl e)) is =
-    status-not_ended (stop_status stop) _ (ap (λ (s : Stop). class_of (stop_status s)) e) (λ h. cc) (λ h. cc) is
-stop_unended R shelf plain stop (inr (inr h)) is =
-    status-not_ended (stop_status stop) _ (ap (λ (s : Stop). class_of (stop_status s)) h.0) (λ e. cc) (λ e. cc) is
-
-pub stopped_unended : {X : Type 0} (R : Outcome X → Type 0) (shelf : Type 0)
-    → ((s : Status) (line : List ℕ) → R (stops s line) → IsRefusal ⊥ s)
-    → (stop : Stop) (d : Decision) → SaysStop stop d → StopsBy R shelf stop → IsRunEnd d.status → ⊥
-stopped_unended R shelf plain stop d says why is =
-    stop_unended R shelf plain stop why (subst IsRunEnd (ap (λ (a : Answer). a.status) (says None)) is)
-
--- nor are want of memory, bad words and a run that was cut short
-pub printed_unended : (d : Decision) → d.status ≡ NoMemory → IsRunEnd d.status → ⊥
-printed_unended d says is = status-not_ended d.status (class_of NoMemory) (ap class_of says) (λ h. cc) (λ h. cc) is
-
-pub words_unended : (d : Decision) → d.status ≡ BadWords → IsRunEnd d.status → ⊥
-words_unended d says is = status-not_ended d.status (class_of BadWords) (ap class_of says) (λ h. cc) (λ h. cc) is
-
-pub cut_unended : (fault : Fault) (r : Result Decision Failed) → IsCutShort fault r → IsRunEnd (status_in r) → ⊥
-cut_unended fault r says is =
-    ⊎_elim (λ (e : status_in r ≡ InputFault).
-    status-not_ended (status_in r) (class_of InputFault) (ap class_of e) (λ h. cc) (λ h. cc) is)
-    (λ (e : status_in r ≡ SinkFault). status-not_ended (status_in r) (class_of SinkFault) (ap class_of e) (λ h. cc)
-    (λ h. cc) is) (cut_status fault r says)
 
 -- ---- of a file
 
@@ -205,56 +140,163 @@ module _ {K N : Type 0} (k : Ghosts K) (n : Ghosts N) (o p q : K) (x y z : N) (c
             (notes options.watch events) decision.line d.noted lines);
       }
 
+  shows_done : (text : List ℕ) → DecidesDone text decision (sink_change k o p) (sink_change n x y)
+      → ShowsDone text status whole
+  shows_done text d = record {
+    status_is = is ∙ d.status_is;
+    put =
+        subst (Puts (sink_change k o q)) d.output_is
+        (Puts-then (k.written o) (k.written p) (k.written q) (k.faults o) (k.faults p) (k.faults q)
+        d.front decision.output d.put puts);
+    noted =
+        subst (Puts (sink_change n x z)) d.line_is
+        (Puts-then (n.written x) (n.written y) (n.written z) (n.faults x) (n.faults y) (n.faults z)
+        [] decision.line d.noted lines);
+  }
+
+  shows_of : (command : ImageCommand) (image : Parts)
+      → DecidesOf command image decision c.input (sink_change k o p) (sink_change n x y)
+      → ShowsOf command image status whole
+  shows_of images.Check image d = tt
+  shows_of images.Dis image d = shows_done (listing image) d
+  shows_of images.Debug image d = record {
+    session = d.session;
+    status_is = is ∙ d.status_is;
+    put =
+        subst (Puts (sink_change k o q))
+        (ap (λ (l : List ℕ). d.session.told.text ++ l) d.no_more ∙ append-nil d.session.told.text)
+        (Puts-then (k.written o) (k.written p) (k.written q) (k.faults o) (k.faults p) (k.faults q)
+        d.session.told.text decision.output d.put puts);
+    noted = subst (Puts (sink_change n x z)) d.line_is
+        (Puts-then (n.written x) (n.written y) (n.written z) (n.faults x) (n.faults y) (n.faults z)
+        [] decision.line d.noted lines);
+  }
+
+  shows_imprecise : (options : RunOptions) (plan : Plan)
+      → DecidesImprecise options plan decision c.input (sink_change k o p) (sink_change n x y)
+      → ShowsImprecise options plan status whole
+  shows_imprecise options plan d =
+      let events = seen d.ran.run.steps in
+      record {
+        ran = d.ran;
+        status_is = is ∙ d.status_is;
+        put =
+            subst (Puts (sink_change k o q))
+            (ap (λ (l : List ℕ). output events ++ l) d.no_more ∙ append-nil (output events))
+            (Puts-then (k.written o) (k.written p) (k.written q) (k.faults o) (k.faults p) (k.faults q)
+            (output events) decision.output d.put puts);
+        noted = subst (λ (l : List ℕ). Puts (sink_change n x z) (notes options.watch events ++ l)) d.line_is
+            (Puts-then (n.written x) (n.written y) (n.written z) (n.faults x) (n.faults y) (n.faults z)
+            (notes options.watch events) decision.line d.noted lines);
+      }
+
+  shows_record : (options : RunOptions) (force : Bool) (plan : Plan) (journal : Journal)
+      → DecidesRecord options force plan journal decision c.input (sink_change k o p) (sink_change n x y)
+      → ShowsRecord options force plan journal status whole
+  shows_record options force plan journal d =
+      let events = seen d.ran.run.steps in
+      record {
+        accepted = d.accepted;
+        ran = d.ran;
+        status_is = is ∙ d.status_is;
+        put =
+            subst (Puts (sink_change k o q))
+            (ap (λ (l : List ℕ). output events ++ l) d.no_more ∙ append-nil (output events))
+            (Puts-then (k.written o) (k.written p) (k.written q) (k.faults o) (k.faults p) (k.faults q)
+            (output events) decision.output d.put puts);
+        noted = subst (λ (l : List ℕ). Puts (sink_change n x z) (notes false events ++ l)) d.line_is
+            (Puts-then (n.written x) (n.written y) (n.written z) (n.faults x) (n.faults y) (n.faults z)
+            (notes false events) decision.line d.noted lines);
+      }
+
+  shows_plan : (options : RunOptions) (force : Bool) (plan : Plan)
+      → DecidesPlan options force plan decision c.input (sink_change k o p) (sink_change n x y)
+      → ShowsPlan options force plan status whole
+  shows_plan options false plan d = (d.0, shows_run options plan.image d.1)
+  shows_plan options true plan d =
+      (shows_imprecise options plan d.0, λ accepted. shows_run options plan.image (d.1 accepted))
+
   pub shows_asked : (command : Command)
       → DecidesAsked command decision c.shelf c.input (sink_change k o p) (sink_change n x y)
       → ShowsAsked command status whole
+  shows_asked (of_image command name) h =
+      record { image = h.image; good = h.good; read = h.read; told = h.told; has = shows_of command h.image h.has }
+  shows_asked (replay name journal) h = record {
+    image = h.image;
+    listed = h.listed;
+    answer = h.answer;
+    middle = h.middle;
+    good = h.good;
+    read = h.read;
+    is_journal = h.is_journal;
+    read_journal = h.read_journal;
+    replays = h.replays;
+    runs = h.runs;
+    alike = h.alike;
+    has = shows_done (replay_line h.answer.units h.answer.reports) h.has;
+  }
   shows_asked (run options name) h =
       record { image = h.image; good = h.good; read = h.read; told = h.told; has = shows_run options h.image h.has }
-  shows_asked (imprecise options (seed m) false name) h =
-      record {
-        image = h.image;
-        good = h.good;
-        read = h.read;
-        told = h.told;
-        has = (h.has.0, shows_run options h.image h.has.1);
+  shows_asked (imprecise options choices force name) h =
+      record { plan = h.plan; is = h.is; told = h.told; has = shows_plan options force h.plan h.has }
+  shows_asked (record_run options choices force name made) h = λ ends.
+      let r = h (subst (IsEndStatus true) is ends) in record {
+        plan = r.plan;
+        journal = r.journal;
+        middle = r.middle;
+        is = r.is;
+        told = r.told;
+        good = r.good;
+        kept = r.kept;
+        has = shows_record options force r.plan r.journal r.has;
       }
-  shows_asked (imprecise options (seed m) true name) h = tt
-  shows_asked (imprecise options (file list) force name) h = tt
-  shows_asked (of_image what name) h = tt
   shows_asked (make what name made) h = tt
   shows_asked (link entry made names) h = tt
-  shows_asked (replay name journal) h = tt
-  shows_asked (record_run options choices force name made) h = tt
   shows_asked (trial blocks) h = tt
 
 -- ---- of a plan
 
--- what was decided of a plan that the verdict lets through is so of its file's image
+-- what was decided of a plan that was read is so of the files'
 pub plan_ran : {H : Type 0} (h : shelves.Ghosts H) (old middle new : H) (name : List ℕ) (choices : Origin)
-    (force : Bool) (plan : Plan) (r : Result Decision Failed) (P : Parts → Decision → Type 0)
-    → IsImage plan.image × IsReadWhole (h.replies old) (h.replies middle) name (image_spelling plan.image)
+    (force : Bool) (plan : Plan) (r : Result Decision Failed) (P : Plan → Decision → Type 0)
+    → IsPlanRead (h.replies old) (h.replies middle) choices name plan
     → Planned choices force name (h.files old) (continues plan) → new ≡ middle
-    → IsAccepted plan.image.words → IfOk r (P plan.image)
-    → IfOk r (λ d. ReadsImage (shelf_change h old new) name (λ x. IsAccepted x.words × P x d))
-plan_ran h old middle new name choices force plan r P read found same accepted did =
-    image_ran h old middle new name plan.image r (λ x d. IsAccepted x.words × P x d) read
-    (planned_image force choices name (h.files old) plan found) same
-    (IfOk-more r (λ d has. (accepted, has)) did)
+    → IfOk r (P plan) → IfOk r (λ d. ReadsPlan (shelf_change h old new) choices name (λ p. P p d))
+plan_ran h old middle new name choices force plan r P read found same did =
+    IfOk-more r (λ d has. record {
+      plan = plan;
+      is =
+          subst (λ (s : List Reply). IsPlanRead (h.replies old) s choices name plan) (ap h.replies (sym same)) read;
+      told = (let (bytes, there, spelt) = planned_image force choices name (h.files old) plan found in
+          subst (HasFile (h.files old) name) spelt.1 there.0);
+      has = has;
+    }) did
+
+-- and where a journal was kept behind it
+pub record_ran : {H : Type 0} (h : shelves.Ghosts H) (old middle new : H) (name out : List ℕ) (choices : Origin)
+    (force : Bool) (plan : Plan) (r : Result Decision Failed) (P : Plan → Journal → Decision → Type 0)
+    → IsPlanRead (h.replies old) (h.replies middle) choices name plan
+    → Planned choices force name (h.files old) (continues plan)
+    → IfOk r (λ d. IsEndStatus true d.status → (p : Journal) × IsJournal p
+    × (h.replies new ≡ h.replies middle ++ Kept out (journals.spelling p) true ∷ []) × P plan p d)
+    → IfOk r (λ d. IsEndStatus true d.status
+    → ReadsAndKeeps (shelf_change h old new) choices name out (λ p journal. P p journal d))
+record_ran h old middle new name out choices force plan r P read found did =
+    IfOk-more r (λ d has ends. let (p, good, kept, ran) = has ends in record {
+      plan = plan;
+      journal = p;
+      middle = h.replies middle;
+      is = read;
+      told = (let (bytes, there, spelt) = planned_image force choices name (h.files old) plan found in
+          subst (HasFile (h.files old) name) spelt.1 there.0);
+      good = good;
+      kept = kept;
+      has = ran;
+    }) did
 
 all_ok : {T E : Type 0} (r : Result T E) → IfOk r (λ v. Unit {0})
 all_ok (Ok v) = tt
 all_ok (Err e) = tt
-
--- by the choices, and by whether the verdict is passed over
-pub imprecise_asked : (options : RunOptions) (choices : Origin) (force : Bool) (name : List ℕ)
-    (r : Result Decision Failed) (s : ShelfChange) (d : Drawn) (out sink : SinkChange)
-    → ((n : ℕ) → choices ≡ seed n → force ≡ false
-    → WhereEnded r
-    (λ decision. ReadsImage s name (λ image. IsAccepted image.words × DecidesRun options image decision d out sink)))
-    → WhereEnded r (λ decision. DecidesAsked (imprecise options choices force name) decision s d out sink)
-imprecise_asked options (seed n) false name r s d out sink h = h n refl refl
-imprecise_asked options (seed n) true name r s d out sink h = λ ends. all_ok r
-imprecise_asked options (file list) force name r s d out sink h = λ ends. all_ok r
 
 -- nothing is said of the other commands
 pub other_asked : (r : Result Decision Failed) → WhereEnded r (λ decision. Unit {0})
@@ -270,24 +312,35 @@ pub runs_on : {K N : Type 0} (k : Ghosts K) (n : Ghosts N) (o p q : K) (x y z : 
     → (status ≢ SinkFault → Puts (sink_change n y z) decision.line)
     → ((command : Command) → AsksFor words command
     → WhereEnded (Ok decision) (λ d. DecidesAsked command d c.shelf c.input (sink_change k o p) (sink_change n x y)))
-    → (command : Command) → AsksFor words command → IsRunEnd status
+    → (command : Command) → AsksFor words command → HasEnded status
     → ShowsAsked command status (record c { out = sink_change k o q; notes = sink_change n x z })
 runs_on k n o p q x y z words c decision status (inl e) puts lines did =
-    λ command asks ends. absurd (sink_unended (subst IsRunEnd e ends))
+    λ command asks ends. absurd (sink_unended (subst HasEnded e ends))
 runs_on k n o p q x y z words c decision status (inr e) puts lines did = λ command asks ends.
-    let calm : status ≢ SinkFault = λ f. sink_unended (subst IsRunEnd f ends) in
+    let calm : status ≢ SinkFault = λ f. sink_unended (subst HasEnded f ends) in
     shows_asked k n o p q x y z c decision status e (puts calm) (lines calm) command
-    (did command asks (subst IsRunEnd e ends))
+    (did command asks (subst HasEnded e ends))
 
 -- of plain words
 pub ran_on : (words : List (List ℕ)) (status : Status) (c : Call) → RunsAsked words status c → Ran words status c
 ran_on words status c h name plain = (
   λ is. let r = h (run defaults name) (ap asked is ∙ plain_run name plain) in record {
     shows =
-        λ ends. let s = r.shows ends in
+        λ ends. let s = r.shows (run_end_class status ends) in
         record { image = s.image; good = s.good; read = s.read; told = s.told; has = (tt, s.has) };
     ends = r.ends;
   },
-  λ is. let r = h (imprecise defaults (seed 0) false name) (ap asked is ∙ plain_imprecise name plain) in
-      record { shows = r.shows; ends = r.ends },
+  λ is. let r = h (imprecise defaults (seed 0) false name) (ap asked is ∙ plain_imprecise name plain) in record {
+    shows =
+        λ ends. let s = r.shows (run_end_class status ends) in
+        let read = seeded_read c.shelf.past c.shelf.history (seed 0) name s.plan 0 refl s.is in
+        record { image = s.plan.image; good = read.0; read = read.1; told = s.told; has = s.has };
+    ends = λ image good accepted read. r.ends image good (λ judges. accepted) read;
+  },
 )
+
+-- of a listing
+pub listed_on : (words : List (List ℕ)) (status : Status) (c : Call) → RunsAsked words status c → Listed words status c
+listed_on words status c h name asks =
+    let r = h (dis name) (asked_rows words (dis name) asks) in
+    record { shows = λ done. r.shows (inl (ap class_of done)); ends = r.ends }

@@ -1,10 +1,11 @@
 -- From what a session did to what is done of an image by it.
-use Rattle.std.proofs.Common.{◌≡◌, ℕ, List, [], ◌++◌, Option, None, Some, Ok, Err, refl, sym, ap, subst, inl, arith}
+use Rattle.std.proofs.Common.{◌≡◌, ◌∙◌, ℕ, List, [], ◌++◌, Option, None, Some, Ok, Err, refl, sym, ap, subst, inl}
+use Rattle.std.proofs.Common.{arith}
 use Rattle.alpha_io.specs.declared.Failed.{Failed}
 use Rattle.alpha_io.specs.declared.shelf.Shelf as shelves
 use Rattle.alpha_io.specs.declared.source.Source as sources
 use Rattle.alpha_io.specs.declared.sink.Sink as sinks
-use Rattle.alpha_io.specs.SinkChange.{sink_change, WritesPartly}
+use Rattle.alpha_io.specs.SinkChange.{SinkChange, sink_change, WritesPartly}
 use Rattle.alpha_io.proofs.Sinks.{Puts-none, WritesPartly-none}
 use Rattle.alpha_pal.specs.declared.fault.Fault.TheVariants as faults
 use Rattle.alpha_pal.specs.CallEffect.{Takes}
@@ -19,7 +20,10 @@ use Rattle.alpha_cmd.specs.declared.devices.Devices.{Devices}
 use Rattle.alpha_cmd.specs.Status.{status_line}
 use Rattle.alpha_cmd.specs.Outcome.{continues}
 use Rattle.alpha_cmd.specs.OfImage.Debug.{MayTell, session_status, LeavesTail, script_most, answer_told, IsEndStatus}
+use Rattle.alpha_cmd.specs.Answer.{Answer}
 use Rattle.alpha_cmd.specs.AnswerBy.{AnswerBy, status_answer, told}
+use Rattle.alpha_cmd.specs.Ends.{still}
+use Rattle.alpha_cmd.specs.SessionRan.{DecidesSession}
 use Rattle.alpha_cmd.specs.Call.{called}
 use Rattle.alpha_cmd.specs.Decision.{answer_in, IsCutShort}
 use Rattle.alpha_cmd.specs.CommandEffect.{CommandEffect}
@@ -112,3 +116,27 @@ module _ {H S K N : Type 0} (h : shelves.Ghosts H) (s : sources.Ghosts S) (k : s
       does_cut h s k n old input out old.notes (on Debug image) faults.Output (Err e) refl
       (session_prefixes did.told did.follows did.part) tt
       (record { source = did.same; later = did.part.later; sink = did.cause; lines = refl }) (rest did.told did.follows)
+
+-- a session to its end, by what the calls of its script gave
+pub session_decides : (image : Parts) (end : DebugEnd) (d : Decision) (script : Drawn) (out : SinkChange)
+    (notes : Option (List ℕ)) (count : ℕ)
+    → ((left : Option (List ℕ))
+    → answer_in left d ≡ status_answer left (session_status end) (status_line (session_status end)))
+    → IsWhole end image script out → DecidesSession image d script out (still notes count)
+session_decides image end d script out notes count says did =
+    let e = says None in
+    let same : session_status end ≡ session_status did.told.end = ap session_status (sym did.end_is) in
+    record {
+      session = record {
+        script = did.follows.taken;
+        gave = did.follows.calls;
+        most = did.follows.most;
+        told = did.told;
+        is = did.alone;
+      };
+      status_is = ap (λ (a : Answer). a.status) e ∙ same;
+      no_more = ap (λ (a : Answer). a.output) e;
+      line_is = ap (λ (a : Answer). a.line) e ∙ ap status_line same;
+      put = did.wrote;
+      noted = Puts-none notes count;
+    }

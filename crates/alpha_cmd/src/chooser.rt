@@ -1,12 +1,13 @@
 //! The words by which the imprecise machine chooses.
 
-ghost use Rattle.std.specs.Prelude.{◌≡◌, ℕ, Some, None, Err, OnErr};
+ghost use Rattle.std.specs.Prelude.{◌≡◌, ℕ, Some, None, Err, IfOk, OnErr};
 ghost use Rattle.alpha_io.specs.ShelfChange.{shelf_change};
 ghost use Rattle.alpha_request.specs.Origin as choices;
 ghost use Rattle.alpha_request.specs.Origin.{seed};
 ghost use Rattle.alpha_request.specs.Options.{origin_of};
 ghost use Rattle.alpha_cmd.specs.Chooser.{ahead_in};
 ghost use Rattle.alpha_cmd.specs.Choosing.{ChoicesOf};
+ghost use Rattle.alpha_cmd.specs.PlanRead.{ReadsWords};
 ghost use Rattle.alpha_cmd.specs.Stage.{Stage};
 
 use crate::Status;
@@ -50,6 +51,8 @@ pub(crate) fn chooser_of<H: Shelf>(
 ) -> Result<Choosing, Stop>
     ensures stage { Stage (ChoicesOf (H.files shelf.old) (origin_of choices.now))
         (λ chooser. ahead_in chooser) result (shelf_change H.Shelf shelf.old shelf.new) }
+    ensures read { IfOk result (λ chooser. ReadsWords (origin_of choices.now)
+        (H.replies shelf.old) (H.replies shelf.new) (ahead_in chooser)) }
     ensures seeded { (n : ℕ) → origin_of choices.now ≡ seed n → shelf.new ≡ shelf.old }
     ensures sure { (n : ℕ) → origin_of choices.now ≡ seed n → OnErr result ⊥ }
 {
@@ -61,7 +64,9 @@ pub(crate) fn chooser_of<H: Shelf>(
 
 // The words that a file writes.
 fn read_choices<H: Shelf>(alloc: Global, name: &str, shelf: &mut H) -> Result<Choosing, Stop>
-    ensures { Stage (ChoicesOf (H.files shelf.old) (choices.file name.now))
+    ensures read { IfOk result (λ chooser. ReadsWords (choices.file name.now)
+        (H.replies shelf.old) (H.replies shelf.new) (ahead_in chooser)) }
+    ensures stage { Stage (ChoicesOf (H.files shelf.old) (choices.file name.now))
         (λ chooser. ahead_in chooser) result (shelf_change H.Shelf shelf.old shelf.new) }
 {
     let bytes = read_file(alloc, shelf, name, CHOICES_LIMIT)?;

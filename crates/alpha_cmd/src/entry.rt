@@ -13,6 +13,7 @@ ghost use Rattle.alpha_cmd.specs.Commands.Link.{KeepsLinks};
 ghost use Rattle.alpha_cmd.specs.SourceCommands.Module.{KeepsModules};
 ghost use Rattle.alpha_cmd.specs.Commands.Record.{KeepsUnder};
 ghost use Rattle.alpha_cmd.specs.Fixed.{Fixes};
+ghost use Rattle.alpha_cmd.specs.Listed.{Listed};
 ghost use Rattle.alpha_cmd.specs.Promises.{EndsWhole, EndsCut, GivesOne, GivesThe, ServesUnder, SparesFiles};
 ghost use Rattle.alpha_cmd.specs.Promises.{TakesInput, DrawsUnder, LeavesScript, EndsAsked, LosesNone};
 ghost use Rattle.alpha_cmd.specs.Ran.{Ran};
@@ -78,6 +79,8 @@ pub fn alpha_main<H: Shelf, S: Source, K: Sink, N: Sink>(
     ensures runs { RunsAsked (words_in arguments.now) result
         (called H.Shelf S.Source K.Sink N.Sink devices.old devices.new) }
     ensures ran { Ran (words_in arguments.now) result (called H.Shelf S.Source K.Sink N.Sink devices.old devices.new) }
+    ensures listed { Listed (words_in arguments.now) result
+        (called H.Shelf S.Source K.Sink N.Sink devices.old devices.new) }
     ensures unread { Unread (words_in arguments.now) result
         (called H.Shelf S.Source K.Sink N.Sink devices.old devices.new) }
     ensures unread_alike { UnreadAlike (words_in arguments.now) result

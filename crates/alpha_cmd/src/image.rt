@@ -49,7 +49,7 @@ pub(crate) fn read_file<H: Shelf>(
     ensures read { IfOk result (λ bytes.
         IsReadWhole (H.replies shelf.old) (H.replies shelf.new) name.now bytes.items) }
     ensures whole { (file : List ℕ) → IsReadWhole (H.replies shelf.old) (H.replies shelf.new) name.now file
-        → IfErr result (λ stop. stop ≡ Stop.Said Status.NoMemory) }
+        → IfErr result (λ stop. stop ≡ Stop.OfStatus Status.NoMemory) }
     ensures stage { Stage (Reads (H.files shelf.old) name.now limit) (λ bytes. bytes.items) result
         (shelf_change H.Shelf shelf.old shelf.new) }
 {
@@ -64,7 +64,7 @@ pub(crate) fn read_file<H: Shelf>(
 /// The spelling of an image.
 pub(crate) fn bytes_of_image(alloc: Global, image: &Image) -> Result<Vec<u8>, Stop>
     ensures ok { IfOk result (λ bytes. bytes.items ≡ image_spelling image.now) }
-    ensures refused { IfErr result (λ stop. stop ≡ Stop.Said Status.NoMemory) }
+    ensures refused { IfErr result (λ stop. stop ≡ Stop.OfStatus Status.NoMemory) }
 {
     match image_bytes(alloc, image) {
         Ok(bytes) => Ok(bytes),
@@ -78,7 +78,7 @@ pub(crate) fn load<H: Shelf>(alloc: Global, shelf: &mut H, name: &str) -> Result
         × IsReadWhole (H.replies shelf.old) (H.replies shelf.new) name.now (image_spelling image)) }
     ensures whole { (image : Parts) → IsImage image
         → IsReadWhole (H.replies shelf.old) (H.replies shelf.new) name.now (image_spelling image)
-        → IfErr result (λ stop. stop ≡ Stop.Said Status.NoMemory) }
+        → IfErr result (λ stop. stop ≡ Stop.OfStatus Status.NoMemory) }
     ensures stage { Stage (ImageOf (H.files shelf.old) name.now) (λ image. image) result
         (shelf_change H.Shelf shelf.old shelf.new) }
 {

@@ -12,11 +12,11 @@ ghost use Rattle.alpha_request.specs.Options.{origin_of};
 ghost use Rattle.alpha_cmd.specs.Chooser.{ahead_in};
 ghost use Rattle.alpha_cmd.specs.Commands.Imprecise as wilds;
 ghost use Rattle.alpha_cmd.specs.Commands.Imprecise.{IsBegun, MayRun, Passes, PlanOf, Planned, plan_by, plan_in};
-ghost use Rattle.alpha_cmd.specs.Checked.{ReadsImage};
 ghost use Rattle.alpha_cmd.specs.CommandEffect.{CommandEffect};
 ghost use Rattle.alpha_cmd.specs.Ends.{status_in};
-ghost use Rattle.alpha_cmd.specs.Ran.{EndsWhere, FailsOnTheWay, IsRunEnd};
-ghost use Rattle.alpha_cmd.specs.RunsAsked.{DecidesRun, WhereEnded};
+ghost use Rattle.alpha_cmd.specs.PlanRead.{IsPlanRead, ReadsPlan};
+ghost use Rattle.alpha_cmd.specs.Ran.{FailsOnTheWay};
+ghost use Rattle.alpha_cmd.specs.RunsAsked.{DecidesPlan, EndsPlan, EndsWherePlan, WhereEnded};
 ghost use Rattle.alpha_cmd.specs.Stage.{Computes, Stage};
 
 use crate::Status;
@@ -73,15 +73,15 @@ pub(crate) fn imprecise<H: Shelf, S: Source, K: Sink, N: Sink>(
     ensures does { CommandEffect H.Shelf S.Source K.Sink N.Sink
         (wilds.form asked.entry.options (origin_of asked.entry.choices) asked.entry.force asked.entry.file.now)
         result devices.old devices.new }
-    ensures ran { (n : ℕ) → origin_of asked.entry.choices ≡ seed n → asked.entry.force ≡ false
-        → WhereEnded result (λ decision.
-        ReadsImage (shelf_change H.Shelf devices.old.shelf devices.new.shelf) asked.entry.file.now
-        (λ image. IsAccepted image.words × DecidesRun asked.entry.options image decision
+    ensures ran { WhereEnded result (λ decision.
+        ReadsPlan (shelf_change H.Shelf devices.old.shelf devices.new.shelf) (origin_of asked.entry.choices)
+        asked.entry.file.now
+        (λ plan. DecidesPlan asked.entry.options asked.entry.force plan decision
         (drawn S.Source devices.old.input devices.new.input)
         (sink_change K.Sink devices.old.out devices.new.out)
         (sink_change N.Sink devices.old.notes devices.new.notes))) }
-    ensures ends { (n : ℕ) → origin_of asked.entry.choices ≡ seed n → asked.entry.force ≡ false
-        → EndsWhere (λ image. IsAccepted image.words) asked.entry.file.now (status_in result)
+    ensures ends { (n : ℕ) → origin_of asked.entry.choices ≡ seed n
+        → EndsWherePlan asked.entry.force asked.entry.file.now (status_in result)
         (shelf_change H.Shelf devices.old.shelf devices.new.shelf) }
 {
     match prepare(alloc, &asked, &mut devices.shelf) {
@@ -102,13 +102,12 @@ pub(crate) fn prepare<H: Shelf>(
         (Planned (origin_of asked.now.choices) asked.now.force asked.now.file.now (H.files shelf.old))
         (λ begun. plan_in begun) result (shelf_change H.Shelf shelf.old shelf.new) }
     ensures begun { IfOk result (IsBegun asked.now.options) }
-    ensures read { (n : ℕ) → origin_of asked.now.choices ≡ seed n → IfOk result (λ begun.
-        IsImage (plan_in begun).image × IsReadWhole (H.replies shelf.old) (H.replies shelf.new)
-        asked.now.file.now (image_spelling (plan_in begun).image)) }
+    ensures read { IfOk result (λ begun. IsPlanRead (H.replies shelf.old) (H.replies shelf.new)
+        (origin_of asked.now.choices) asked.now.file.now (plan_in begun)) }
     ensures whole { (n : ℕ) (image : Parts) → origin_of asked.now.choices ≡ seed n → IsImage image
-        → IsAccepted image.words
+        → (asked.now.force ≡ false → IsAccepted image.words)
         → IsReadWhole (H.replies shelf.old) (H.replies shelf.new) asked.now.file.now (image_spelling image)
-        → IfErr result (λ stop. stop ≡ Stop.Said Status.NoMemory) }
+        → IfErr result (λ stop. stop ≡ Stop.OfStatus Status.NoMemory) }
 {
     let plan = read_plan(alloc, asked.file, &asked.choices, shelf)?;
     require_pass(&plan, asked.force)?;
@@ -124,11 +123,11 @@ fn read_plan<H: Shelf>(
 ) -> Result<Plan, Stop>
     ensures stage { Stage (PlanOf (H.files shelf.old) file.now (origin_of choices.now))
         (λ plan. plan_by plan.image (ahead_in plan.chooser)) result (shelf_change H.Shelf shelf.old shelf.new) }
-    ensures read { (n : ℕ) → origin_of choices.now ≡ seed n → IfOk result (λ plan. IsImage plan.image
-        × IsReadWhole (H.replies shelf.old) (H.replies shelf.new) file.now (image_spelling plan.image)) }
+    ensures read { IfOk result (λ plan. IsPlanRead (H.replies shelf.old) (H.replies shelf.new)
+        (origin_of choices.now) file.now (plan_by plan.image (ahead_in plan.chooser))) }
     ensures whole { (n : ℕ) (image : Parts) → origin_of choices.now ≡ seed n → IsImage image
         → IsReadWhole (H.replies shelf.old) (H.replies shelf.new) file.now (image_spelling image)
-        → IfErr result (λ stop. stop ≡ Stop.Said Status.NoMemory) }
+        → IfErr result (λ stop. stop ≡ Stop.OfStatus Status.NoMemory) }
 {
     let image = load(alloc, shelf, file)?;
     let chooser = chooser_of(alloc, choices, shelf)?;
@@ -137,7 +136,7 @@ fn read_plan<H: Shelf>(
 
 // Judges the image of a plan, unless the verdict is passed over.
 fn require_pass(plan: &Plan, force: bool) -> Result<(), Stop>
-    ensures whole { IsAccepted plan.now.image.words → OnErr result ⊥ }
+    ensures whole { (force ≡ false → IsAccepted plan.now.image.words) → OnErr result ⊥ }
     ensures computes { Computes (Passes force (plan_by plan.now.image (ahead_in plan.now.chooser)))
         (λ _. plan_by plan.now.image (ahead_in plan.now.chooser)) result }
 {
@@ -152,7 +151,7 @@ fn require_pass(plan: &Plan, force: bool) -> Result<(), Stop>
 fn begin(alloc: Global, plan: Plan, options: RunOptions) -> Result<Begun, Stop>
     ensures ok { IfOk result (λ begun. plan_in begun ≡ plan_by plan.image (ahead_in plan.chooser)) }
     ensures begun { IfOk result (IsBegun options) }
-    ensures refused { IfErr result (λ stop. stop ≡ Stop.Said Status.NoMemory) }
+    ensures refused { IfErr result (λ stop. stop ≡ Stop.OfStatus Status.NoMemory) }
 {
     match Machine::new(alloc, plan.image, options.complete) {
         Ok(machine) => {
@@ -174,11 +173,12 @@ fn run_begun<H: Shelf, S: Source, K: Sink, N: Sink>(
     ensures does { (force : Bool) → MayRun force (plan_in begun.old)
         → CommandEffect H.Shelf S.Source K.Sink N.Sink (wilds.on options force (plan_in begun.old)) result
         devices.old devices.new }
-    ensures ran { MayRun false (plan_in begun.old)
-        → WhereEnded result (λ decision. DecidesRun options (plan_in begun.old).image decision
+    ensures ran { (force : Bool) → MayRun force (plan_in begun.old)
+        → WhereEnded result (λ decision. DecidesPlan options force (plan_in begun.old) decision
         (drawn S.Source devices.old.input devices.new.input)
         (sink_change K.Sink devices.old.out devices.new.out) (sink_change N.Sink devices.old.notes devices.new.notes)) }
-    ensures ends { MayRun false (plan_in begun.old) → IsRunEnd (status_in result) ⊎ FailsOnTheWay (status_in result) }
+    ensures ends { (force : Bool) → MayRun force (plan_in begun.old)
+        → EndsPlan force (status_in result) ⊎ FailsOnTheWay (status_in result) }
     ensures shelf { devices.new.shelf ≡ devices.old.shelf }
 {
     let mut left = options.steps;

@@ -1,9 +1,10 @@
 //! `record FILE OUT`: a run of the image's program by the imprecise machine, whose journal is kept as a
 //! file.
 
-ghost use Rattle.std.specs.Prelude.{◌≡◌, ◌≢◌, ℕ, List, Bool, Option, length};
+ghost use Rattle.std.specs.Prelude.{◌≡◌, ◌≢◌, ◌++◌, ◌∷◌, [], ℕ, List, Bool, true, Option, length};
 ghost use Rattle.alpha_io.specs.Faults.{Faulted};
 ghost use Rattle.alpha_io.specs.Files.{HasFile, Refuses};
+ghost use Rattle.alpha_io.specs.History.{Kept};
 ghost use Rattle.alpha_io.specs.ShelfChange.{shelf_change};
 ghost use Rattle.alpha_io.specs.SinkChange.{sink_change};
 ghost use Rattle.alpha_request.specs.Options.{origin_of};
@@ -12,12 +13,14 @@ ghost use Rattle.alpha_seq.specs.declared.end.End.{End};
 ghost use Rattle.alpha_imprecise.specs.ChosenRun.{LostTrap};
 ghost use Rattle.alpha_replay.specs.Journal.{IsJournal, Parts, spelling};
 ghost use Rattle.alpha_cmd.specs.AnswerBy.{world};
-ghost use Rattle.alpha_cmd.specs.Commands.Imprecise.{IsBegun, MayRun, plan_in, imprecise_status};
+ghost use Rattle.alpha_cmd.specs.Commands.Imprecise.{IsBegun, IsEndStatus, MayRun, plan_in, imprecise_status};
 ghost use Rattle.alpha_cmd.specs.Commands.Record as recordings;
 ghost use Rattle.alpha_cmd.specs.Commands.Record.{HasJournal, IsOver, KeepsRun, KeptBehind, RunsOn, WhenMade, WhenOver};
 ghost use Rattle.alpha_cmd.specs.CommandEffect.{CommandEffect};
 ghost use Rattle.alpha_cmd.specs.Ends.{status_in};
 ghost use Rattle.alpha_cmd.specs.Kept.{Serves};
+ghost use Rattle.alpha_cmd.specs.RecordRan.{DecidesRecord, ReadsAndKeeps};
+ghost use Rattle.alpha_cmd.specs.RunsAsked.{HasEnded, WhereEnded};
 
 use crate::Status;
 use crate::decision::Decision;
@@ -49,6 +52,13 @@ pub(crate) fn record<H: Shelf, S: Source, K: Sink, N: Sink>(
     ensures does { CommandEffect H.Shelf S.Source K.Sink N.Sink
         (recordings.form asked.entry.options (origin_of asked.entry.choices) asked.entry.force
         asked.entry.file.now name.now) result devices.old devices.new }
+    ensures ran { WhereEnded result (λ decision. IsEndStatus true decision.status
+        → ReadsAndKeeps (shelf_change H.Shelf devices.old.shelf devices.new.shelf) (origin_of asked.entry.choices)
+        asked.entry.file.now name.now
+        (λ plan journal. DecidesRecord asked.entry.options asked.entry.force plan journal decision
+        (drawn S.Source devices.old.input devices.new.input)
+        (sink_change K.Sink devices.old.out devices.new.out)
+        (sink_change N.Sink devices.old.notes devices.new.notes))) }
     ensures keeps { (end : Option End) (lost : Option LostTrap) (n : ℕ)
         → status_in result ≡ imprecise_status end lost n
         → KeepsRun asked.entry.options (origin_of asked.entry.choices) asked.entry.force
@@ -74,6 +84,13 @@ fn record_begun<H: Shelf, S: Source, K: Sink, N: Sink>(
     ensures does { (force : Bool) → MayRun force (plan_in begun.old)
         → CommandEffect H.Shelf S.Source K.Sink N.Sink
         (recordings.on options force name.now (plan_in begun.old)) result devices.old devices.new }
+    ensures ran { (force : Bool) → MayRun force (plan_in begun.old)
+        → WhereEnded result (λ decision. IsEndStatus true decision.status → (p : Parts) × IsJournal p
+        × (H.replies devices.new.shelf ≡ H.replies devices.old.shelf ++ Kept name.now (spelling p) true ∷ [])
+        × DecidesRecord options force (plan_in begun.old) p decision
+        (drawn S.Source devices.old.input devices.new.input)
+        (sink_change K.Sink devices.old.out devices.new.out)
+        (sink_change N.Sink devices.old.notes devices.new.notes)) }
     ensures keeps { (force : Bool) → MayRun force (plan_in begun.old)
         → (end : Option End) (lost : Option LostTrap) (n : ℕ)
         → status_in result ≡ imprecise_status end lost n
@@ -101,6 +118,8 @@ fn keep_journal<H: Shelf>(
         (Faulted (H.faults shelf.old) (H.faults shelf.new)) name.now (spelling journal.now)
         (shelf_change H.Shelf shelf.old shelf.new) decision result }
     ensures good { IsJournal journal.now }
+    ensures stands { HasEnded result.status → (result ≡ decision)
+        × (H.replies shelf.new ≡ H.replies shelf.old ++ Kept name.now (spelling journal.now) true ∷ []) }
     ensures shelf { decision.status ≢ Status.ShelfFault
         → Serves (shelf_change H.Shelf shelf.old shelf.new)
         (result.status ≢ Status.ShelfFault) }
@@ -127,6 +146,11 @@ fn run_begun<H: Shelf, S: Source, K: Sink, N: Sink>(
         → MayRun force (plan_in begun.old)
         → RunsOn options force (S.left devices.old.input) (plan_in begun.old) journal decision
         (S.left devices.new.input) (sink_change K.Sink devices.old.out devices.new.out)
+        (sink_change N.Sink devices.old.notes devices.new.notes)) }
+    ensures ran { WhenMade result (λ decision journal. (force : Bool) → MayRun force (plan_in begun.old)
+        → DecidesRecord options force (plan_in begun.old) journal decision
+        (drawn S.Source devices.old.input devices.new.input)
+        (sink_change K.Sink devices.old.out devices.new.out)
         (sink_change N.Sink devices.old.notes devices.new.notes)) }
     ensures faults_unchanged { WhenMade result (λ decision journal.
         S.faults devices.new.input ≡ S.faults devices.old.input) }

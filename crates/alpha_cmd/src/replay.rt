@@ -1,12 +1,18 @@
 //! `replay FILE JOURNAL`: whether a journal lists a run of an image.
 
 ghost use Rattle.std.specs.Prelude.{◌≡◌, ◌⊎◌, IfOk, IfErr, None};
+ghost use Rattle.alpha_io.specs.History.{IsReadWhole};
 ghost use Rattle.alpha_io.specs.ShelfChange.{shelf_change};
+ghost use Rattle.alpha_io.specs.SinkChange.{sink_change};
+ghost use Rattle.alpha_replay.specs.Journal.{IsJournal, spelling};
 ghost use Rattle.alpha_replay.specs.JournalFault.{first_fault};
 ghost use Rattle.alpha_cmd.specs.Outcome.{continues, stops};
 ghost use Rattle.alpha_cmd.specs.Commands.Replay as replays;
 ghost use Rattle.alpha_cmd.specs.Commands.Replay.{SpellsJournal, JournalOf, Plays, RunOf};
 ghost use Rattle.alpha_cmd.specs.CommandEffect.{CommandEffect};
+ghost use Rattle.alpha_cmd.specs.ReplayRan.{ReplaysFiles};
+ghost use Rattle.alpha_cmd.specs.RunsAsked.{WhereEnded};
+ghost use Rattle.alpha_cmd.specs.ShowsDone.{DecidesDone};
 ghost use Rattle.alpha_cmd.specs.Stage.{Computes, Stage, stop_status, stop_line};
 
 use crate::Status;
@@ -30,7 +36,12 @@ pub(crate) fn replay<H: Shelf, S: Source, K: Sink, N: Sink>(
     journal: &str,
     devices: &mut Devices<H, S, K, N>,
 ) -> Result<Decision, Failed>
-    ensures { CommandEffect H.Shelf S.Source K.Sink N.Sink (replays.form file.now journal.now) result
+    ensures ran { WhereEnded result (λ decision.
+        ReplaysFiles (shelf_change H.Shelf devices.old.shelf devices.new.shelf) file.now journal.now
+        (λ r. DecidesDone (replays.run_line r.units r.reports) decision
+        (sink_change K.Sink devices.old.out devices.new.out)
+        (sink_change N.Sink devices.old.notes devices.new.notes))) }
+    ensures does { CommandEffect H.Shelf S.Source K.Sink N.Sink (replays.form file.now journal.now) result
         devices.old devices.new }
 {
     match run_of(alloc, file, journal, &mut devices.shelf) {
@@ -46,7 +57,9 @@ fn run_of<H: Shelf>(
     journal: &str,
     shelf: &mut H,
 ) -> Result<Replayed, Stop>
-    ensures { Stage (RunOf (H.files shelf.old) file.now journal.now) (λ replayed. replayed) result
+    ensures read { IfOk result (λ replayed.
+        ReplaysFiles (shelf_change H.Shelf shelf.old shelf.new) file.now journal.now (λ r. r ≡ replayed)) }
+    ensures stage { Stage (RunOf (H.files shelf.old) file.now journal.now) (λ replayed. replayed) result
         (shelf_change H.Shelf shelf.old shelf.new) }
 {
     let image = load(alloc, shelf, file)?;
@@ -56,7 +69,9 @@ fn run_of<H: Shelf>(
 
 // The journal of a file.
 fn load_journal<H: Shelf>(alloc: Global, shelf: &mut H, name: &str) -> Result<Journal, Stop>
-    ensures { Stage (JournalOf (H.files shelf.old) name.now) (λ journal. journal) result
+    ensures read { IfOk result (λ journal. IsJournal journal
+        × IsReadWhole (H.replies shelf.old) (H.replies shelf.new) name.now (spelling journal)) }
+    ensures stage { Stage (JournalOf (H.files shelf.old) name.now) (λ journal. journal) result
         (shelf_change H.Shelf shelf.old shelf.new) }
 {
     let bytes = read_file(alloc, shelf, name, JOURNAL_LIMIT)?;
@@ -68,7 +83,7 @@ fn journal_of(alloc: Global, bytes: &[u8]) -> Result<Journal, Stop>
     ensures ok { IfOk result (λ journal. SpellsJournal bytes.now (continues journal)) }
     ensures refused { IfErr result (λ stop.
         SpellsJournal bytes.now (stops (stop_status stop) (stop_line stop))
-        ⊎ ((stop ≡ Stop.Said Status.NoMemory) × (first_fault bytes.now ≡ None))) }
+        ⊎ ((stop ≡ Stop.OfStatus Status.NoMemory) × (first_fault bytes.now ≡ None))) }
 {
     match read_journal(alloc, bytes) {
         Ok(journal) => Ok(journal),

@@ -21,6 +21,7 @@ ghost use Rattle.alpha_cmd.specs.CommandEffect.{CommandEffect};
 ghost use Rattle.alpha_cmd.specs.Ends.{OutcomeOrFault, status_in};
 ghost use Rattle.alpha_cmd.specs.Fixed.{Fixes};
 ghost use Rattle.alpha_cmd.specs.Kept.{Serves};
+ghost use Rattle.alpha_cmd.specs.Listed.{Listed};
 ghost use Rattle.alpha_cmd.specs.Promises.{EndsWhole, EndsCut, GivesOne, GivesThe, ServesUnder, SparesFiles};
 ghost use Rattle.alpha_cmd.specs.Promises.{TakesInput, DrawsUnder, LeavesScript, EndsAsked, LosesNone};
 ghost use Rattle.alpha_cmd.specs.Ran.{Ran};
@@ -141,6 +142,11 @@ pub fn alpha_top<H: Shelf, S: Source, K: Sink, N: Sink>(
     // `run --imprecise FILE`.
     ensures runs { RunsAsked words.now result (called H.Shelf S.Source K.Sink N.Sink devices.old devices.new) }
     ensures ran { Ran words.now result (called H.Shelf S.Source K.Sink N.Sink devices.old devices.new) }
+
+    // Where a listing is done, the bytes that the shelf's calls gave of the file, from its start to its end and
+    // nothing else, spell an image, and just its listing was put, whatever the shelf tells. And where those bytes
+    // spell one, it is done, but where memory ran out or a sink failed.
+    ensures listed { Listed words.now result (called H.Shelf S.Source K.Sink N.Sink devices.old devices.new) }
 
     // A run of a told file whose program reads nothing in the steps that are asked for has the answer of
     // the sequential run over no input, whatever the source tells or doesn't tell. So has a run of the

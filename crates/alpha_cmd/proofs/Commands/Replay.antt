@@ -22,7 +22,8 @@ use Rattle.alpha_cmd.specs.Answer.{Answer}
 use Rattle.alpha_cmd.specs.AnswerBy.{World}
 use Rattle.alpha_cmd.specs.Commands.Replay.{journal_limit, SpellsJournal, JournalOf, Plays, RunOf, shown, form, there}
 use Rattle.alpha_cmd.specs.Stage.{StopsBy, stop_status, stop_line}
-use Rattle.alpha_cmd.proofs.Lawful.{Lawful, HasOutcome, Faults-lawful, Then-lawful, Gives-lawful}
+use Rattle.alpha_cmd.specs.declared.status.Status.{Status}
+use Rattle.alpha_cmd.proofs.Lawful.{Lawful, IsRefusal, HasOutcome, Faults-lawful, Then-lawful, Gives-lawful}
 use Rattle.alpha_cmd.proofs.Stages.{Reads-lawful, ImageOf-lawful, read_bytes, kept_same}
 use Rattle.alpha_cmd.proofs.Forms.{IsLawfulForm, is_fault}
 
@@ -91,3 +92,16 @@ pub played_by : (shelf : Type 0) (a : Files) (file name : List ℕ) (image : Ima
 played_by shelf a file name image p (Ok x) found spelled h = tt
 played_by shelf a file name image p (Err s) found spelled (inl h) = inl (inr (image, found, inr (p, spelled, h)))
 played_by shelf a file name image p (Err s) found spelled (inr e) = inr (inl e)
+
+-- where it stops it is refused
+pub run_plain : (file journal : List ℕ) (files : Files) (s : Status) (line : List ℕ)
+    → RunOf files file journal (stops s line) → IsRefusal ⊥ s
+run_plain file journal files =
+    (Then-lawful {R = ImageOf files file} {S = λ image. Then (JournalOf files journal) (Plays image)}
+    (ImageOf-lawful ⊥ ⊥ ⊥ files file (λ no. absurd no) (λ no. absurd no) (λ no. absurd no))
+    (λ image found.
+    Then-lawful {R = JournalOf files journal} {S = Plays image}
+    (Then-lawful {R = Reads files journal journal_limit} {S = SpellsJournal}
+    (Reads-lawful ⊥ ⊥ ⊥ files journal journal_limit (λ no. absurd no) (λ no. absurd no) (λ no. absurd no))
+    (λ bytes read. SpellsJournal-lawful ⊥ ⊥ ⊥ bytes (λ no. absurd no)))
+    (λ p spelled. Plays-lawful ⊥ ⊥ ⊥ image p))).plain

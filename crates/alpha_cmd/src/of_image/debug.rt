@@ -1,9 +1,15 @@
 //! `debug`: a session of the debugger on an image's program.
 
+ghost use Rattle.std.specs.Prelude.{◌≡◌};
+ghost use Rattle.alpha_io.specs.SinkChange.{sink_change};
+ghost use Rattle.alpha_seq.specs.Devices.{drawn};
 ghost use Rattle.alpha_request.specs.declared.request.ImageCommand.TheVariants as asked;
 ghost use Rattle.alpha_cmd.specs.OfImage.Debug.{LeavesTail, script_most};
 ghost use Rattle.alpha_cmd.specs.CommandEffect.{CommandEffect};
+ghost use Rattle.alpha_cmd.specs.Ends.{status_in};
 ghost use Rattle.alpha_cmd.specs.OfImage as images;
+ghost use Rattle.alpha_cmd.specs.RunsAsked.{EndsOf, WhereEnded};
+ghost use Rattle.alpha_cmd.specs.SessionRan.{DecidesSession};
 
 use crate::Status;
 use crate::decision::Decision;
@@ -21,9 +27,14 @@ pub(crate) fn session<H: Shelf, S: Source, K: Sink, N: Sink>(
     image: Image,
     devices: &mut Devices<H, S, K, N>,
 ) -> Result<Decision, Failed>
+    ensures ran { WhereEnded result (λ decision. DecidesSession image decision
+        (drawn S.Source devices.old.input devices.new.input)
+        (sink_change K.Sink devices.old.out devices.new.out) (sink_change N.Sink devices.old.notes devices.new.notes)) }
+    ensures ends { EndsOf asked.Debug (status_in result) }
     ensures does { CommandEffect H.Shelf S.Source K.Sink N.Sink
         (images.on asked.Debug image) result devices.old devices.new }
     ensures script { LeavesTail script_most (S.left devices.old.input) (S.left devices.new.input) }
+    ensures shelf { devices.new.shelf ≡ devices.old.shelf }
 {
     match debug(alloc, image, &mut devices.input, &mut devices.out) {
         DebugEnd::Done => Ok(Decision::of_status(Status::Done(0))),

@@ -11,6 +11,7 @@ use Rattle.alpha_cmd.specs.Commands.Link.{KeepsLinks}
 use Rattle.alpha_cmd.specs.SourceCommands.Module.{KeepsModules}
 use Rattle.alpha_cmd.specs.Commands.Record.{KeepsUnder}
 use Rattle.alpha_cmd.specs.Fixed.{Fixes}
+use Rattle.alpha_cmd.specs.Listed.{Listed}
 use Rattle.alpha_cmd.specs.Promises.{EndsWhole, EndsCut, GivesOne, GivesThe, SparesFiles, TakesInput, LeavesScript}
 use Rattle.alpha_cmd.specs.Promises.{EndsAsked, LosesNone}
 use Rattle.alpha_cmd.specs.Ran.{Ran}
@@ -21,7 +22,7 @@ use Rattle.alpha_cmd.specs.Replied.{Replies}
 use Rattle.alpha_cmd.specs.Restarts.{Restarts}
 use Rattle.alpha_cmd.specs.ToldRun.{RanTold}
 use Rattle.alpha_cmd.proofs.JournalStatus.{journal_status-no_end}
-use Rattle.alpha_cmd.proofs.RunsOnReplies.{memory_unended}
+use Rattle.alpha_cmd.proofs.Ended.{memory_unended, run_end_class}
 use Rattle.alpha_cmd.proofs.SessionsTold.{tail_same}
 use Rattle.alpha_cmd.proofs.EndsWhere.{failed_ends}
 use Rattle.alpha_cmd.proofs.entry.alpha_main.Goals as goal
@@ -55,6 +56,7 @@ returns-in-Ok g c =
       ran_told = subst (λ (words : List (List ℕ)). RanTold words status did) is done.ran_told;
       runs = subst (λ (words : List (List ℕ)). RunsAsked words status did) is done.runs;
       ran = subst (λ (words : List (List ℕ)). Ran words status did) is done.ran;
+      listed = subst (λ (words : List (List ℕ)). Listed words status did) is done.listed;
       alike = subst (λ (words : List (List ℕ)). Alike words status did) is done.alike;
       unread = subst (λ (words : List (List ℕ)). Unread words status did) is done.unread;
       unread_alike = subst (λ (words : List (List ℕ)). UnreadAlike words status did) is done.unread_alike;
@@ -89,10 +91,16 @@ returns-in-Err g c =
         ends = failed_ends command NoMemory _ (inl refl);
       };
       ran = λ file plain. (
-        λ is. record { shows = λ ends. absurd (memory_unended ends); ends = λ image good has read. inr (inl refl) },
-        λ is.
-            record { shows = λ ends. absurd (memory_unended ends); ends = λ image good accepted read. inr (inl refl) },
+        λ is. record {
+          shows = λ ends. absurd (memory_unended (run_end_class NoMemory ends));
+          ends = λ image good has read. inr (inl refl);
+        },
+        λ is. record {
+          shows = λ ends. absurd (memory_unended (run_end_class NoMemory ends));
+          ends = λ image good accepted read. inr (inl refl);
+        },
       );
+      listed = λ file asks. record { shows = λ e. absurd (undone e); ends = λ image good read. inr (inl refl) };
       given = λ quiet. inr refl;
       exact = λ a told quiet is. inr refl;
       replied = λ command asks e. absurd (undone e);

@@ -1,15 +1,13 @@
-use Rattle.std.proofs.Common.{Bool, false, refl, subst}
 use Rattle.alpha_io.specs.SinkChange.{sink_change}
-use Rattle.alpha_shadow.specs.Broken.{IsAccepted}
 use Rattle.alpha_seq.specs.Devices.{drawn as drawn_in}
 use Rattle.alpha_request.specs.Options.{origin_of}
-use Rattle.alpha_cmd.specs.RunsAsked.{DecidesRun}
+use Rattle.alpha_cmd.specs.RunsAsked.{DecidesPlan}
 use Rattle.alpha_cmd.specs.Commands.Imprecise.{Planned, RunsImprecise, kind, plan_in}
 use Rattle.alpha_cmd.specs.Form.{needs_files_and_input}
-use Rattle.alpha_cmd.specs.Outcome.{continues}
 use Rattle.alpha_cmd.proofs.AfterRead.{does_after, does_stop}
 use Rattle.alpha_cmd.proofs.Commands.Imprecise.{planned_good, planned_plain}
-use Rattle.alpha_cmd.proofs.RunsOnReplies.{plan_ran, stopped_unended}
+use Rattle.alpha_cmd.proofs.Ended.{stopped_unended}
+use Rattle.alpha_cmd.proofs.RunsOnReplies.{plan_ran}
 use Rattle.alpha_cmd.proofs.EndsWhere.{memory_fails}
 use Rattle.alpha_cmd.proofs.imprecise.imprecise.Goals as goal
 
@@ -35,26 +33,21 @@ returns-in-Err-clause-does g c =
     (kind a.force) c.stopped.result c.in-Err.stop c.stopped.ensures c.in-Err.ensures.stage
 
 pub returns-in-Ok-clause-ran : goal.returns-in-Ok-clause-ran
-returns-in-Ok-clause-ran g c = λ n seeds judges ends.
+returns-in-Ok-clause-ran g c = λ ends.
     let a = c.args.asked in
     let old = c.args.devices.now in
     let new = c.run_begun.new.devices in
     let plan = plan_in c.in-Ok.begun in
-    let files = g.H.Shelf.files old.shelf in
-    let may = planned_good false (origin_of a.choices) a.file.now files plan
-    (subst (λ (force : Bool). Planned (origin_of a.choices) force a.file.now files (continues plan)) judges
-    c.in-Ok.ensures.stage.ok) in
+    let planned = c.in-Ok.ensures.stage.ok in
+    let may = planned_good a.force (origin_of a.choices) a.file.now (g.H.Shelf.files old.shelf) plan planned in
     plan_ran g.H.Shelf old.shelf c.prepare.new.shelf new.shelf a.file.now
-    (origin_of a.choices) false plan c.run_begun.result
-    (λ image decision. DecidesRun a.options image decision (drawn_in g.S.Source old.input new.input)
+    (origin_of a.choices) a.force plan c.run_begun.result
+    (λ p decision. DecidesPlan a.options a.force p decision (drawn_in g.S.Source old.input new.input)
     (sink_change g.K.Sink old.out new.out) (sink_change g.N.Sink old.notes new.notes))
-    (c.in-Ok.ensures.read n seeds)
-    (subst (λ (force : Bool). Planned (origin_of a.choices) force a.file.now files (continues plan)) judges
-    c.in-Ok.ensures.stage.ok)
-    c.run_begun.ensures.shelf (may.1 refl) (c.run_begun.ensures.ran may ends)
+    c.in-Ok.ensures.read planned c.run_begun.ensures.shelf (c.run_begun.ensures.ran a.force may ends)
 
 pub returns-in-Err-clause-ran : goal.returns-in-Err-clause-ran
-returns-in-Err-clause-ran g c = λ n seeds judges ends.
+returns-in-Err-clause-ran g c = λ ends.
     let a = c.args.asked in
     let files = g.H.Shelf.files c.args.devices.now.shelf in
     absurd (stopped_unended (Planned (origin_of a.choices) a.force a.file.now files) _
@@ -62,15 +55,12 @@ returns-in-Err-clause-ran g c = λ n seeds judges ends.
     c.stopped.ensures c.in-Err.ensures.stage.refused ends)
 
 pub returns-in-Ok-clause-ends : goal.returns-in-Ok-clause-ends
-returns-in-Ok-clause-ends g c = λ n seeds judges image good accepted read.
+returns-in-Ok-clause-ends g c = λ n seeds image good accepted read.
     let a = c.args.asked in
-    let files = g.H.Shelf.files c.args.devices.now.shelf in
-    let plan = plan_in c.in-Ok.begun in
-    c.run_begun.ensures.ends (planned_good false (origin_of a.choices) a.file.now files plan
-    (subst (λ (force : Bool). Planned (origin_of a.choices) force a.file.now files (continues plan)) judges
-    c.in-Ok.ensures.stage.ok))
+    c.run_begun.ensures.ends a.force (planned_good a.force (origin_of a.choices) a.file.now
+    (g.H.Shelf.files c.args.devices.now.shelf) (plan_in c.in-Ok.begun) c.in-Ok.ensures.stage.ok)
 
 pub returns-in-Err-clause-ends : goal.returns-in-Err-clause-ends
-returns-in-Err-clause-ends g c = λ n seeds judges image good accepted read.
-    memory_fails c.in-Err.stop c.stopped.result c.stopped.ensures
+returns-in-Err-clause-ends g c = λ n seeds image good accepted read.
+    memory_fails _ c.in-Err.stop c.stopped.result c.stopped.ensures
     (c.in-Err.ensures.whole n image seeds good accepted read)

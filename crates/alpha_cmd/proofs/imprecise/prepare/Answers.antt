@@ -1,19 +1,18 @@
 use Rattle.std.proofs.Common.{◌≡◌, subst, sym, inl, inr, ⊎_elim}
 use Rattle.std.proofs.lemmas.Result.{err_from_is_err_and}
-use Rattle.alpha_io.specs.History.{IsReadWhole}
 use Rattle.alpha_io.specs.ShelfChange.{shelf_change}
-use Rattle.alpha_image.specs.Parts.{IsImage, image_spelling}
 use Rattle.alpha_request.specs.Options.{origin_of}
 use Rattle.alpha_cmd.specs.Chooser.{ahead_in}
 use Rattle.alpha_cmd.specs.Commands.Imprecise.{Plan, PlanOf, Planned, Passes, plan_by, plan_in}
 use Rattle.alpha_cmd.specs.Outcome.{stops}
+use Rattle.alpha_cmd.specs.PlanRead.{IsPlanRead}
 use Rattle.alpha_cmd.specs.Stage.{stop_status, stop_line}
 use Rattle.alpha_cmd.specs.declared.status.Status.TheVariants.{NoMemory}
 use Rattle.alpha_cmd.specs.declared.stop.Stop.TheVariants.{OfStatus}
 use Rattle.alpha_cmd.proofs.StageEffects.{stage_made}
 use Rattle.alpha_cmd.proofs.Lawful.{Then-stops}
 use Rattle.alpha_cmd.proofs.Stages.{IfOk-more}
-use Rattle.alpha_cmd.proofs.EndsWhere.{read_accepted}
+use Rattle.alpha_cmd.proofs.EndsWhere.{read_accepted, seeded_read}
 use Rattle.alpha_cmd.proofs.imprecise.prepare.Goals as goal
 
 pub returns-in_err-plan-clause-stage : goal.returns-in_err-plan-clause-stage
@@ -48,14 +47,13 @@ returns-clause-stage g c =
     c.begin.ensures.refused
 
 pub returns-clause-read : goal.returns-clause-read
-returns-clause-read g c = λ n seeds.
+returns-clause-read g c =
+    let a = c.args.asked.now in
     let old = g.H.Shelf.replies c.args.shelf.now in
     let new = g.H.Shelf.replies c.read_plan.new.shelf in
     IfOk-more c.begin.result
-    (λ begun is.
-    subst (λ (p : Plan). IsImage p.image × IsReadWhole old new c.args.asked.now.file.now (image_spelling p.image))
-    (sym is)
-    (c.in_ok-plan.ensures.read n seeds)) c.begin.ensures.ok
+    (λ begun is. subst (λ (p : Plan). IsPlanRead old new (origin_of a.choices) a.file.now p) (sym is)
+    c.in_ok-plan.ensures.read) c.begin.ensures.ok
 
 pub returns-in_err-plan-clause-whole : goal.returns-in_err-plan-clause-whole
 returns-in_err-plan-clause-whole g c = λ n image seeds good accepted read.
@@ -64,10 +62,13 @@ returns-in_err-plan-clause-whole g c = λ n image seeds good accepted read.
 
 pub returns-in_err-require_pass-clause-whole : goal.returns-in_err-require_pass-clause-whole
 returns-in_err-require_pass-clause-whole g c = λ n image seeds good accepted read.
-    let plan = c.in_ok-plan.plan.image in
-    absurd (c.in_err-require_pass.ensures.whole (read_accepted (g.H.Shelf.replies c.args.shelf.now)
-    (g.H.Shelf.replies c.read_plan.new.shelf) c.args.asked.now.file.now plan image
-    (c.in_ok-plan.ensures.read n seeds) good read accepted))
+    let a = c.args.asked.now in
+    let old = g.H.Shelf.replies c.args.shelf.now in
+    let new = g.H.Shelf.replies c.read_plan.new.shelf in
+    let plan = plan_by c.in_ok-plan.plan.image (ahead_in c.in_ok-plan.plan.chooser) in
+    absurd (c.in_err-require_pass.ensures.whole (λ judges. read_accepted old new a.file.now plan.image image
+    (seeded_read old new (origin_of a.choices) a.file.now plan n seeds c.in_ok-plan.ensures.read)
+    good read (accepted judges)))
 
 pub returns-clause-whole : goal.returns-clause-whole
 returns-clause-whole g c = λ n image seeds good accepted read. c.begin.ensures.refused

@@ -19,8 +19,12 @@ returns-in_err-chooser-clause-stage g c =
     c.in_ok-image.ensures.stage.shelf c.in_err-chooser.ensures.stage)
 
 pub returns-clause-read : goal.returns-clause-read
-returns-clause-read g c = λ n seeds.
-    (c.in_ok-image.ensures.read.0, rw (c.in_ok-chooser.ensures.seeded n seeds) c.in_ok-image.ensures.read.1)
+returns-clause-read g c = record {
+  middle = g.H.Shelf.replies c.load.new.shelf;
+  good = c.in_ok-image.ensures.read.0;
+  read = c.in_ok-image.ensures.read.1;
+  words = c.in_ok-chooser.ensures.read;
+}
 
 pub returns-in_err-image-clause-whole : goal.returns-in_err-image-clause-whole
 returns-in_err-image-clause-whole g c = λ n image seeds good read.

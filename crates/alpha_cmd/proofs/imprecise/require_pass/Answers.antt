@@ -21,3 +21,6 @@ returns-else-force-clause-computes c =
     rw c.if-force.false
     (judged_passes (plan_by c.args.plan.now.image (ahead_in c.args.plan.now.chooser)) c.require_accepted.result
     c.require_accepted.ensures.ok c.require_accepted.ensures.refused)
+
+pub returns-else-force-clause-whole : goal.returns-else-force-clause-whole
+returns-else-force-clause-whole c = λ accepted. c.require_accepted.ensures.whole (accepted c.if-force.false)

@@ -1,4 +1,4 @@
-use Rattle.std.proofs.Common.{ℕ, Some, false, refl, sym, ap, inl}
+use Rattle.std.proofs.Common.{ℕ, Some, refl, sym, ap, inl}
 use Rattle.alpha_io.specs.SinkChange.{sink_change}
 use Rattle.alpha_seq.specs.Devices.{drawn}
 use Rattle.alpha_imprecise.specs.Run.{seen}
@@ -7,12 +7,11 @@ use Rattle.alpha_run.proofs.ImpreciseShown.{whole_run-ImpreciseRanAs}
 use Rattle.alpha_cmd.specs.AnswerBy.{world}
 use Rattle.alpha_cmd.specs.Chooser.{ahead_in}
 use Rattle.alpha_cmd.specs.Commands.Imprecise.{on, plan_in}
-use Rattle.alpha_cmd.specs.Ran.{end_on}
 use Rattle.alpha_cmd.proofs.StreamedWrites.{does_cut}
-use Rattle.alpha_cmd.proofs.RunsOnReplies.{cut_unended}
-use Rattle.alpha_cmd.proofs.ImpreciseRan.{may_alone, ran_shows, ran_whole, imprecise-DecidesAsked, cut_begins}
-use Rattle.alpha_cmd.proofs.ImpreciseRan.{cut_fronts}
-use Rattle.alpha_cmd.proofs.EndsWhere.{cut_fails}
+use Rattle.alpha_cmd.proofs.Ended.{cut_unended}
+use Rattle.alpha_cmd.proofs.ImpreciseEnds.{may_alone}
+use Rattle.alpha_cmd.proofs.ImpreciseRan.{ran_shows, ran_whole, made_by_words, cut_begins, cut_fronts}
+use Rattle.alpha_cmd.proofs.EndsWhere.{cut_fails, plan_ends}
 use Rattle.alpha_cmd.proofs.imprecise.run_begun.Goals as goal
 
 pub returns-in-Ok-clause-does : goal.returns-in-Ok-clause-does
@@ -52,34 +51,35 @@ returns-in-Err-clause-does g c = λ force may.
     c.cut_short.ensures cut.cause (end_of_cut input cut.left (seen cut.steps) cut.fed cut.leaves_end)
 
 pub returns-in-Ok-clause-ran : goal.returns-in-Ok-clause-ran
-returns-in-Ok-clause-ran g c = λ may ends.
+returns-in-Ok-clause-ran g c = λ force may ends.
     let old = c.args.devices.now in
     let new = c.run_imprecise.new in
     let begun = c.args.begun.now in
     let w = whole_run-ImpreciseRanAs _ _ _ _ _ _ _ _ _ _ _ c.in-Ok.ensures.made in
-    imprecise-DecidesAsked c.args.options begun.wild
-    (ahead_in begun.chooser.chooser) c.requires.completion c.requires.fresh
+    made_by_words c.args.options begun.wild (ahead_in begun.chooser.chooser) c.requires.completion c.requires.fresh
     c.in-Ok.last new.left new.wild _ _ (drawn g.S.Source old.input new.input)
-    (sink_change g.K.Sink old.out new.out) (sink_change g.N.Sink old.notes new.notes) w refl c.drawn.result
-    (may_alone false (plan_in begun) may refl) c.after_run.result c.after_run.ensures
+    (sink_change g.K.Sink old.out new.out) (sink_change g.N.Sink old.notes new.notes) w refl force c.drawn.result
+    (ap (λ (n : ℕ). Some n) c.requires.none) (ap (λ (n : ℕ). Some n) (sym c.drawn.ensures)) c.drawn.type_inv may
+    c.after_run.result c.after_run.ensures
 
 pub returns-in-Err-clause-ran : goal.returns-in-Err-clause-ran
 returns-in-Err-clause-ran g c =
-    λ may ends. absurd (cut_unended c.in-Err.fault c.cut_short.result c.cut_short.ensures ends)
+    λ force may ends. absurd (cut_unended c.in-Err.fault c.cut_short.result c.cut_short.ensures ends)
 
 pub returns-in-Ok-clause-ends : goal.returns-in-Ok-clause-ends
-returns-in-Ok-clause-ends g c = λ may.
+returns-in-Ok-clause-ends g c = λ force may.
     let old = c.args.devices.now in
     let new = c.run_imprecise.new in
     let begun = c.args.begun.now in
+    let input = drawn g.S.Source old.input new.input in
+    let out = sink_change g.K.Sink old.out new.out in
+    let notes = sink_change g.N.Sink old.notes new.notes in
     let w = whole_run-ImpreciseRanAs _ _ _ _ _ _ _ _ _ _ _ c.in-Ok.ensures.made in
-    let decided =
-    imprecise-DecidesAsked c.args.options begun.wild
-    (ahead_in begun.chooser.chooser) c.requires.completion c.requires.fresh
-    c.in-Ok.last new.left new.wild _ _ (drawn g.S.Source old.input new.input)
-    (sink_change g.K.Sink old.out new.out) (sink_change g.N.Sink old.notes new.notes) w refl c.drawn.result
-    (may_alone false (plan_in begun) may refl) c.after_run.result c.after_run.ensures in
-    inl (end_on decided.ran, decided.status_is)
+    inl (plan_ends c.args.options force (plan_in begun) c.after_run.result input out notes
+    (made_by_words c.args.options begun.wild (ahead_in begun.chooser.chooser) c.requires.completion c.requires.fresh
+    c.in-Ok.last new.left new.wild _ _ input out notes w refl force c.drawn.result
+    (ap (λ (n : ℕ). Some n) c.requires.none) (ap (λ (n : ℕ). Some n) (sym c.drawn.ensures)) c.drawn.type_inv may
+    c.after_run.result c.after_run.ensures))
 
 pub returns-in-Err-clause-ends : goal.returns-in-Err-clause-ends
-returns-in-Err-clause-ends g c = λ may. cut_fails c.in-Err.fault c.cut_short.result c.cut_short.ensures
+returns-in-Err-clause-ends g c = λ force may. cut_fails _ c.in-Err.fault c.cut_short.result c.cut_short.ensures

@@ -1,9 +1,15 @@
-use Rattle.std.proofs.Common.{refl, subst}
+use Rattle.std.proofs.Common.{refl, subst, inl}
 use Rattle.alpha_io.specs.Files.{HasFile}
+use Rattle.alpha_io.specs.SinkChange.{sink_change}
+use Rattle.alpha_seq.specs.Devices.{drawn}
 use Rattle.alpha_cmd.specs.Image.{ImageOf}
 use Rattle.alpha_cmd.specs.Form.{needs_by}
 use Rattle.alpha_cmd.specs.OfImage.{Answers, kind}
+use Rattle.alpha_cmd.specs.RunsAsked.{DecidesOf}
 use Rattle.alpha_cmd.proofs.AfterRead.{does_after, does_stop}
+use Rattle.alpha_cmd.proofs.EndsWhere.{failed_of, memory_said}
+use Rattle.alpha_cmd.proofs.Ended.{stopped_unended}
+use Rattle.alpha_cmd.proofs.RunsOnReplies.{image_ran}
 use Rattle.alpha_cmd.proofs.Stages.{stopped_undone, image_plain}
 use Rattle.alpha_cmd.proofs.SessionsTold.{tail_same}
 use Rattle.alpha_cmd.proofs.of_image.of_image.Goals as goal
@@ -33,7 +39,7 @@ returns-in-Ok-clause-checked g c = λ is done.
     record {
       image = c.in-Ok.image;
       good = c.in-Ok.ensures.read.0;
-      read = rw (c.on_image.ensures.same is) c.in-Ok.ensures.read.1;
+      read = rw c.on_image.ensures.shelf c.in-Ok.ensures.read.1;
       told = subst (HasFile (g.H.Shelf.files c.args.devices.now.shelf) c.args.file.now) spelt.1 there.0;
       has = c.on_image.ensures.accepted is done;
     }
@@ -44,3 +50,27 @@ returns-in-Err-clause-checked g c = λ is done.
     absurd (stopped_undone (ImageOf files c.args.file.now) _
     (image_plain files c.args.file.now) c.in-Err.stop c.stopped.result c.stopped.ensures
     c.in-Err.ensures.stage.refused done)
+
+pub returns-in-Ok-clause-ran : goal.returns-in-Ok-clause-ran
+returns-in-Ok-clause-ran g c = λ ends.
+    let old = c.args.devices.now in
+    let new = c.on_image.new.devices in
+    image_ran g.H.Shelf old.shelf c.load.new.shelf new.shelf c.args.file.now c.in-Ok.image c.on_image.result
+    (λ image decision. DecidesOf c.args.command image decision (drawn g.S.Source old.input new.input)
+    (sink_change g.K.Sink old.out new.out) (sink_change g.N.Sink old.notes new.notes))
+    c.in-Ok.ensures.read c.in-Ok.ensures.stage.ok c.on_image.ensures.shelf (c.on_image.ensures.ran ends)
+
+pub returns-in-Err-clause-ran : goal.returns-in-Err-clause-ran
+returns-in-Err-clause-ran g c = λ ends.
+    let files = g.H.Shelf.files c.args.devices.now.shelf in
+    absurd (stopped_unended (ImageOf files c.args.file.now) _
+    (image_plain files c.args.file.now) c.in-Err.stop c.stopped.result c.stopped.ensures
+    c.in-Err.ensures.stage.refused ends)
+
+pub returns-in-Ok-clause-ends : goal.returns-in-Ok-clause-ends
+returns-in-Ok-clause-ends g c = λ image good read. c.on_image.ensures.ends
+
+pub returns-in-Err-clause-ends : goal.returns-in-Err-clause-ends
+returns-in-Err-clause-ends g c = λ image good read.
+    failed_of c.args.command c.stopped.result.status
+    (inl (memory_said c.in-Err.stop c.stopped.result c.stopped.ensures (c.in-Err.ensures.whole image good read)))

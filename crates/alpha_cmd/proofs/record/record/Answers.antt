@@ -1,21 +1,27 @@
 use Rattle.std.proofs.Common.{◌∙◌, None, sym, ap}
 use Rattle.alpha_io.specs.Faults.{Faulted}
+use Rattle.alpha_io.specs.SinkChange.{sink_change}
+use Rattle.alpha_seq.specs.Devices.{drawn as drawn_in}
 use Rattle.alpha_request.specs.Options.{origin_of}
 use Rattle.alpha_cmd.specs.Answer.{Answer}
 use Rattle.alpha_cmd.specs.AnswerBy.{told}
 use Rattle.alpha_cmd.specs.Commands.Imprecise.{Planned, plan_in}
 use Rattle.alpha_cmd.specs.Commands.Record.{Records, kind}
 use Rattle.alpha_cmd.specs.Form.{needs_files_and_input}
+use Rattle.alpha_cmd.specs.RecordRan.{DecidesRecord}
 use Rattle.alpha_cmd.proofs.AfterRead.{does_after, does_stop}
 use Rattle.alpha_cmd.proofs.StageEffects.{shelf_call}
 use Rattle.alpha_cmd.proofs.JournalStatus.{stopped_no_end}
-use Rattle.alpha_cmd.proofs.Commands.Imprecise.{planned_good}
+use Rattle.alpha_cmd.proofs.Commands.Imprecise.{planned_good, planned_plain}
+use Rattle.alpha_cmd.proofs.Ended.{stopped_unended}
+use Rattle.alpha_cmd.proofs.RunsOnReplies.{record_ran}
 use Rattle.alpha_cmd.proofs.record.record.Goals as goal
 
 pub returns-in-Ok : goal.returns-in-Ok
 returns-in-Ok g c =
     let a = c.args.asked in
     let plan = plan_in c.in-Ok.begun in
+    let name = c.args.name.now in
     let is = c.in-Ok.ensures.stage in
     let may =
     planned_good a.force (origin_of a.choices) a.file.now (g.H.Shelf.files c.args.devices.now.shelf) plan is.ok in
@@ -26,6 +32,15 @@ returns-in-Ok g c =
           (Records a.options a.force c.args.name.now) needs_files_and_input
           (kind a.force c.args.name.now) plan c.record_begun.result _ (λ e. cc) is.ok is.shelf
           (c.record_begun.ensures.does a.force may);
+      ran = λ ends.
+          let old = c.args.devices.now in
+          let new = c.record_begun.new.devices in
+          record_ran g.H.Shelf old.shelf c.prepare.new.shelf new.shelf a.file.now name (origin_of a.choices) a.force
+          plan c.record_begun.result
+          (λ p journal decision. DecidesRecord a.options a.force p journal decision
+          (drawn_in g.S.Source old.input new.input) (sink_change g.K.Sink old.out new.out)
+          (sink_change g.N.Sink old.notes new.notes))
+          c.in-Ok.ensures.read is.ok (c.record_begun.ensures.ran a.force may ends);
       keeps = λ end lost n is_end. (plan, is.ok, c.record_begun.ensures.keeps a.force may end lost n is_end);
     }
 
@@ -41,6 +56,9 @@ returns-in-Err g c =
           (Planned drawn a.force a.file.now) (Records a.options a.force name)
           needs_files_and_input (kind a.force name) c.stopped.result c.in-Err.stop c.stopped.ensures
           c.in-Err.ensures.stage;
+      ran = λ ends. absurd (stopped_unended (Planned drawn a.force a.file.now did.shelf.old) _
+          (planned_plain drawn a.force a.file.now did.shelf.old) c.in-Err.stop c.stopped.result c.stopped.ensures
+          c.in-Err.ensures.stage.refused ends);
       keeps = λ end lost n is.
           absurd (stopped_no_end a.options drawn a.force a.file.now name (told did)
           (Faulted did.shelf.before did.shelf.now) end lost n c.in-Err.stop

@@ -1,14 +1,18 @@
-use Rattle.std.proofs.Common.{length}
+use Rattle.std.proofs.Common.{◌++◌, ◌∷◌, ◌∙◌, List, [], true, length, sym, ap, subst}
 use Rattle.alpha_io.specs.Faults.{Faulted}
 use Rattle.alpha_io.specs.Files.{Refuses}
+use Rattle.alpha_io.specs.History.{Kept, Reply}
 use Rattle.alpha_io.specs.ShelfChange.{shelf_change}
 use Rattle.alpha_io.specs.SinkChange.{sink_change}
+use Rattle.alpha_seq.specs.Devices.{drawn}
 use Rattle.alpha_replay.specs.Journal.{spelling}
+use Rattle.alpha_cmd.specs.declared.decision.Decision.{Decision}
 use Rattle.alpha_cmd.specs.Commands.Imprecise.{plan_in}
 use Rattle.alpha_cmd.specs.Ends.{status_in}
+use Rattle.alpha_cmd.specs.RecordRan.{DecidesRecord}
 use Rattle.alpha_cmd.proofs.Commands.Record.{has_of}
 use Rattle.alpha_cmd.proofs.JournalKept.{kept_does}
-use Rattle.alpha_cmd.proofs.JournalStatus.{kept_keeps, over_no_end}
+use Rattle.alpha_cmd.proofs.JournalStatus.{kept_keeps, over_no_end, over_ran}
 use Rattle.alpha_cmd.proofs.record.record_begun.Goals as goal
 
 pub returns-in-Made-clause-does : goal.returns-in-Made-clause-does
@@ -46,3 +50,23 @@ returns-in-Over-clause-does g c = λ force may. c.in-Over.ensures.over force c.a
 pub returns-in-Over-clause-keeps : goal.returns-in-Over-clause-keeps
 returns-in-Over-clause-keeps g c =
     λ force may end lost n is. absurd (over_no_end end lost n (status_in c.in-Over.result) is c.in-Over.ensures.status)
+
+pub returns-in-Made-clause-ran : goal.returns-in-Made-clause-ran
+returns-in-Made-clause-ran g c = λ force may ends is.
+    let old = c.args.devices.now in
+    let middle = c.run_begun.new.devices in
+    let p = c.in-Made.journal in
+    let stands = c.keep_journal.ensures.stands ends in (
+      p,
+      c.keep_journal.ensures.good,
+      stands.1
+          ∙ ap (λ (l : List Reply). l ++ Kept c.args.name.now (spelling p) true ∷ [])
+          (ap g.H.Shelf.replies c.run_begun.ensures.shelf),
+      subst (λ (d : Decision). DecidesRecord c.args.options force (plan_in c.args.begun.now) p d
+          (drawn g.S.Source old.input middle.input) (sink_change g.K.Sink old.out middle.out)
+          (sink_change g.N.Sink old.notes middle.notes))
+          (sym stands.0) (c.in-Made.ensures.ran force may),
+    )
+
+pub returns-in-Over-clause-ran : goal.returns-in-Over-clause-ran
+returns-in-Over-clause-ran g c = λ force may ends. over_ran c.in-Over.result c.in-Over.ensures.status _

@@ -11,8 +11,11 @@ use Rattle.alpha_cmd.specs.Commands.Record.{on, unwatched}
 use Rattle.alpha_cmd.specs.Ends.{status_in}
 use Rattle.alpha_cmd.proofs.CutShort.{cut_status}
 use Rattle.alpha_cmd.proofs.StreamedWrites.{does_cut}
-use Rattle.alpha_cmd.proofs.ImpreciseRan.{may_alone, cut_begins}
-use Rattle.alpha_cmd.proofs.JournalRan.{runs_on, result_at, stopped_by, AttemptPrefixes-by, stopped_does, unbegun_does}
+use Rattle.alpha_cmd.proofs.ImpreciseEnds.{may_alone}
+use Rattle.alpha_cmd.proofs.ImpreciseRan.{cut_begins}
+use Rattle.alpha_cmd.proofs.JournalRan.{record_decides, runs_on, result_at, stopped_by, AttemptPrefixes-by}
+use Rattle.alpha_cmd.proofs.JournalRan.{stopped_does}
+use Rattle.alpha_cmd.proofs.JournalRan.{unbegun_does}
 use Rattle.alpha_cmd.proofs.record.run_begun.Goals as goal
 
 pub returns-in-Made-clause-made : goal.returns-in-Made-clause-made
@@ -97,3 +100,14 @@ returns-in-NoMemory-clause-over g c = λ force name may.
     c.requires.fresh g.H.Shelf g.S.Source g.K.Sink g.N.Sink c.args.devices.now
     new.input new.out new.notes force name c.of_status-in-NoMemory.result c.of_status-in-NoMemory.ensures.answer
     none.source none.sink none.lines
+
+pub returns-in-Made-clause-ran : goal.returns-in-Made-clause-ran
+returns-in-Made-clause-ran g c = λ force may.
+    let old = c.args.devices.now in
+    let new = c.make_journal.new in
+    let begun = c.args.begun.now in
+    record_decides c.args.options begun.wild (ahead_in begun.chooser.chooser) c.requires.completion c.requires.fresh
+    force c.in-Made.last c.drawn.result c.in-Made.journal c.after_run.result new.wild _ _
+    (drawn g.S.Source old.input new.input) (sink_change g.K.Sink old.out new.out)
+    (sink_change g.N.Sink old.notes new.notes) c.in-Made.ensures.made c.after_run.ensures refl
+    (ap (λ (k : ℕ). Some k) c.requires.none) (ap (λ (k : ℕ). Some k) (sym c.drawn.ensures)) c.drawn.type_inv may

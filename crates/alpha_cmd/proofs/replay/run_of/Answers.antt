@@ -1,26 +1,29 @@
-use Rattle.std.proofs.Common.{rules}
+use Rattle.std.proofs.Common.{refl, rules}
 use Rattle.std.proofs.lemmas.Result.{err_from_is_err_and}
 use Rattle.alpha_cmd.specs.Commands.Replay.{JournalOf, Plays}
 use Rattle.alpha_cmd.specs.Image.{ImageOf}
+use Rattle.alpha_restart.proofs.Agreement.{accepted_restarts}
+use Rattle.alpha_replay.proofs.ItemEffects.{replayed_is, restarted_is}
+use Rattle.alpha_cmd.proofs.Stages.{IfOk-more}
 use Rattle.alpha_cmd.proofs.AfterRead.{reads_both, second_stops}
 use Rattle.alpha_cmd.proofs.Commands.Replay.{journal_after, played_by}
 use Rattle.alpha_cmd.proofs.replay.run_of.Goals as goal
 
-pub returns-in_err-journal : goal.returns-in_err-journal
-returns-in_err-journal g c =
+pub returns-in_err-journal-clause-stage : goal.returns-in_err-journal-clause-stage
+returns-in_err-journal-clause-stage g c =
     let p = err_from_is_err_and c.from_residual-in_err-journal.result c.from_residual-in_err-journal.ensures.1 in
     rw (p.1, p.2)
     (second_stops g.H.Shelf c.args.shelf.now c.load.new.shelf c.load_journal.new.shelf
     (λ files. ImageOf files c.args.file.now) (λ files. JournalOf files c.args.journal.now) Plays
     (λ replayed. replayed) c.in_ok-image.image c.in_err-journal.field-0.0 _
-    (λ e. cc) c.in_ok-image.ensures.stage.ok c.in_ok-image.ensures.stage.shelf c.in_err-journal.ensures)
+    (λ e. cc) c.in_ok-image.ensures.stage.ok c.in_ok-image.ensures.stage.shelf c.in_err-journal.ensures.stage)
 
-pub returns : goal.returns
-returns g c =
+pub returns-clause-stage : goal.returns-clause-stage
+returns-clause-stage g c =
     let a = g.H.Shelf.files c.args.shelf.now in
     let p = c.in_ok-journal.journal in
     let spelled = journal_after a (g.H.Shelf.files c.load.new.shelf) c.args.journal.now p
-    c.in_ok-image.ensures.stage.shelf.files c.in_ok-journal.ensures.ok in
+    c.in_ok-image.ensures.stage.shelf.files c.in_ok-journal.ensures.stage.ok in
     record {
       ok = search (rules, spelled);
       refused =
@@ -28,5 +31,24 @@ returns g c =
           c.in_ok-image.ensures.stage.ok spelled c.play.ensures.refused;
       shelf =
           reads_both g.H.Shelf c.args.shelf.now c.load.new.shelf c.load_journal.new.shelf _ _ _ (λ e. cc)
-          (λ h e. cc) c.in_ok-image.ensures.stage.shelf c.in_ok-journal.ensures.shelf;
+          (λ h e. cc) c.in_ok-image.ensures.stage.shelf c.in_ok-journal.ensures.stage.shelf;
     }
+
+pub returns-clause-read : goal.returns-clause-read
+returns-clause-read g c =
+    let image = c.in_ok-image.image in
+    let p = c.in_ok-journal.journal in
+    IfOk-more c.play.result (λ r replays. record {
+      image = image;
+      listed = p;
+      answer = r;
+      middle = g.H.Shelf.replies c.load.new.shelf;
+      good = c.in_ok-image.ensures.read.0;
+      read = c.in_ok-image.ensures.read.1;
+      is_journal = c.in_ok-journal.ensures.read.0;
+      read_journal = c.in_ok-journal.ensures.read.1;
+      replays = replays;
+      runs = replayed_is image p r replays;
+      alike = λ safe. restarted_is image p r replays (accepted_restarts image c.in_ok-image.ensures.read.0 safe);
+      has = refl;
+    }) c.play.ensures.ok

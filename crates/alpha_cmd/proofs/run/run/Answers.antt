@@ -5,7 +5,8 @@ use Rattle.alpha_cmd.specs.Image.{ImageOf}
 use Rattle.alpha_cmd.specs.Commands.Run.{Runs, kind}
 use Rattle.alpha_cmd.specs.Form.{needs_files_and_input}
 use Rattle.alpha_cmd.proofs.AfterRead.{does_after, does_stop}
-use Rattle.alpha_cmd.proofs.RunsOnReplies.{image_ran, stopped_unended}
+use Rattle.alpha_cmd.proofs.Ended.{stopped_unended}
+use Rattle.alpha_cmd.proofs.RunsOnReplies.{image_ran}
 use Rattle.alpha_cmd.proofs.Stages.{image_plain}
 use Rattle.alpha_cmd.proofs.EndsWhere.{memory_fails}
 use Rattle.alpha_cmd.proofs.run.run.Goals as goal
@@ -45,4 +46,4 @@ returns-in-Ok-clause-ends g c = λ image good has read. c.run_image.ensures.ends
 
 pub returns-in-Err-clause-ends : goal.returns-in-Err-clause-ends
 returns-in-Err-clause-ends g c = λ image good has read.
-    memory_fails c.in-Err.stop c.stopped.result c.stopped.ensures (c.in-Err.ensures.whole image good read)
+    memory_fails _ c.in-Err.stop c.stopped.result c.stopped.ensures (c.in-Err.ensures.whole image good read)

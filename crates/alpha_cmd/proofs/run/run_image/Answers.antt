@@ -7,7 +7,7 @@ use Rattle.alpha_cmd.specs.Commands.Run.{on}
 use Rattle.alpha_cmd.specs.CommandEffect.{CommandEffect}
 use Rattle.alpha_cmd.specs.RunsAsked.{DecidesRun, WhereEnded}
 use Rattle.alpha_cmd.proofs.StageEffects.{does_not_start}
-use Rattle.alpha_cmd.proofs.RunsOnReplies.{printed_unended}
+use Rattle.alpha_cmd.proofs.Ended.{said_unended}
 use Rattle.alpha_cmd.proofs.run.run_image.Goals as goal
 
 pub returns-in-Ok-clause-does : goal.returns-in-Ok-clause-does
@@ -31,7 +31,7 @@ returns-in-Ok-clause-ran g c =
     (ap (λ (p : Program). p.image) c.in-Ok.ensures.program) c.run_machine.ensures.ran
 
 pub returns-in-Err-clause-ran : goal.returns-in-Err-clause-ran
-returns-in-Err-clause-ran g c = λ ends. absurd (printed_unended c.of_status.result c.of_status.ensures.status ends)
+returns-in-Err-clause-ran g c = λ ends. absurd (said_unended c.of_status.result c.of_status.ensures.status ends)
 
 pub returns-in-Err-clause-ends : goal.returns-in-Err-clause-ends
 returns-in-Err-clause-ends g c = inr (inl c.of_status.ensures.status)

@@ -5,7 +5,8 @@ use Rattle.alpha_run.proofs.ObservedSteps.{end_of_fed, end_of_cut}
 use Rattle.alpha_cmd.specs.Commands.Run.{on}
 use Rattle.alpha_cmd.specs.Ran.{end_on}
 use Rattle.alpha_cmd.proofs.Ran.{ran_shows, ran_whole, cut_fronts}
-use Rattle.alpha_cmd.proofs.RunsOnReplies.{ran_decides, cut_unended}
+use Rattle.alpha_cmd.proofs.Ended.{cut_unended}
+use Rattle.alpha_cmd.proofs.RunsOnReplies.{ran_decides}
 use Rattle.alpha_cmd.proofs.StreamedWrites.{does_cut}
 use Rattle.alpha_cmd.proofs.EndsWhere.{cut_fails}
 use Rattle.alpha_cmd.proofs.run.run_machine.Goals as goal
@@ -61,4 +62,4 @@ returns-in-Ok-clause-ends g c =
     inl (end_on decided.ran, decided.status_is)
 
 pub returns-in-Err-clause-ends : goal.returns-in-Err-clause-ends
-returns-in-Err-clause-ends g c = cut_fails c.in-Err.fault c.cut_short.result c.cut_short.ensures
+returns-in-Err-clause-ends g c = cut_fails _ c.in-Err.fault c.cut_short.result c.cut_short.ensures

@@ -6,7 +6,8 @@ use Rattle.alpha_cmd.specs.Asks.{AsksFor}
 use Rattle.alpha_cmd.specs.Call.{Call, called}
 use Rattle.alpha_cmd.specs.RunsAsked.{RunsAsked}
 use Rattle.alpha_cmd.proofs.CallPromises as promised
-use Rattle.alpha_cmd.proofs.RunsOnReplies.{ran_on, runs_on, sink_unended}
+use Rattle.alpha_cmd.proofs.Ended.{run_end_class, sink_unended}
+use Rattle.alpha_cmd.proofs.RunsOnReplies.{listed_on, ran_on, runs_on}
 use Rattle.alpha_cmd.proofs.EndsWhere.{delivered_ends, failed_ends}
 use Rattle.alpha_cmd.proofs.top.alpha_top.Goals as goal
 
@@ -63,6 +64,7 @@ returns-in-Ok g c =
       ran_told = promised.CallEnded-RanTold how;
       runs = runs;
       ran = ran_on words status given runs;
+      listed = listed_on words status given runs;
       unread = promised.CallEnded-Unread how;
       unread_alike = promised.unread_alike how;
       fixed = promised.CallEnded-Fixes how;
@@ -100,15 +102,22 @@ returns-in-Err g c =
       ran_told = promised.CallEnded-RanTold how;
       runs = λ command asks. record {
         shows = λ ends. absurd (sink_unended ends);
-        ends = failed_ends command SinkFault did.shelf (inr (inr refl));
+        ends = failed_ends command SinkFault did.shelf (inr refl);
       };
       ran = λ file plain. (
-        λ is. record { shows = λ ends. absurd (sink_unended ends); ends = λ image good has read. inr (inr (inr refl)) },
         λ is. record {
-          shows = λ ends. absurd (sink_unended ends);
+          shows = λ ends. absurd (sink_unended (run_end_class SinkFault ends));
+          ends = λ image good has read. inr (inr (inr refl));
+        },
+        λ is. record {
+          shows = λ ends. absurd (sink_unended (run_end_class SinkFault ends));
           ends = λ image good accepted read. inr (inr (inr refl));
         },
       );
+      listed = λ file asks. record {
+        shows = λ e. absurd (let x : SinkFault ≡ Done 0 = e in cc);
+        ends = λ image good read. inr (inr refl);
+      };
       unread = promised.CallEnded-Unread how;
       unread_alike = promised.unread_alike how;
       fixed = promised.CallEnded-Fixes how;

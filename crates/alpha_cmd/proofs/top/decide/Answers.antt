@@ -15,7 +15,7 @@ use Rattle.alpha_cmd.specs.Promises.{tried_in}
 use Rattle.alpha_cmd.specs.RunsAsked.{DecidesAsked, EndsAsRun}
 use Rattle.alpha_cmd.specs.Replied.{Replied}
 use Rattle.alpha_cmd.proofs.CallEndings.{Leaves-all, OutcomeOrFault-map}
-use Rattle.alpha_cmd.proofs.RunsOnReplies.{printed_unended, words_unended}
+use Rattle.alpha_cmd.proofs.Ended.{said_unended, words_unended}
 use Rattle.alpha_cmd.proofs.SessionsTold.{tail_same}
 use Rattle.alpha_cmd.proofs.AttemptedBy.{asked_tried, kind_is}
 use Rattle.alpha_cmd.proofs.EndsWhere.{failed_ends}
@@ -107,7 +107,7 @@ returns-in-Err-BadWords-clause-ran g c =
 
 pub returns-in-Err-NoMemory-clause-ran : goal.returns-in-Err-NoMemory-clause-ran
 returns-in-Err-NoMemory-clause-ran g c = λ command asks ends.
-    absurd (printed_unended c.of_status-in-Err-NoMemory.result c.of_status-in-Err-NoMemory.ensures.status ends)
+    absurd (said_unended c.of_status-in-Err-NoMemory.result c.of_status-in-Err-NoMemory.ensures.status ends)
 
 pub returns-in-Err-BadWords-clause-ends : goal.returns-in-Err-BadWords-clause-ends
 returns-in-Err-BadWords-clause-ends g c = λ command asks.

@@ -1,13 +1,11 @@
 use Rattle.std.proofs.Common.{◌≡◌, ◌∙◌, sym, ap}
 use Rattle.alpha_io.specs.ShelfChange.{shelf_change}
-use Rattle.alpha_io.specs.SinkChange.{sink_change}
-use Rattle.alpha_seq.specs.Devices.{drawn}
 use Rattle.alpha_request.specs.Options.{origin_of}
 use Rattle.alpha_request.specs.Command.{of_image, debug}
 use Rattle.alpha_request.specs.CommandOf.{command_of}
 use Rattle.alpha_cmd.specs.Ends.{status_in}
 use Rattle.alpha_cmd.proofs.OfImage.{of_image_replied}
-use Rattle.alpha_cmd.proofs.RunsOnReplies.{imprecise_asked, other_asked}
+use Rattle.alpha_cmd.proofs.RunsOnReplies.{other_asked}
 use Rattle.alpha_cmd.proofs.EndsWhere.{imprecise_ends}
 use Rattle.alpha_cmd.proofs.top.perform.Goals as goal
 
@@ -42,17 +40,10 @@ pub returns-in-Run-clause-ran : goal.returns-in-Run-clause-ran
 returns-in-Run-clause-ran g c = rw c.in-Run.is c.run.ensures.ran
 
 pub returns-in-RunImprecise-clause-ran : goal.returns-in-RunImprecise-clause-ran
-returns-in-RunImprecise-clause-ran g c =
-    let i = c.in-RunImprecise in
-    let old = c.args.devices.now in
-    let new = c.imprecise.new.devices in
-    rw i.is
-    (imprecise_asked i.options (origin_of i.choices) i.force i.file.now c.imprecise.result
-    (shelf_change g.H.Shelf old.shelf new.shelf) (drawn g.S.Source old.input new.input)
-    (sink_change g.K.Sink old.out new.out) (sink_change g.N.Sink old.notes new.notes) c.imprecise.ensures.ran)
+returns-in-RunImprecise-clause-ran g c = rw c.in-RunImprecise.is c.imprecise.ensures.ran
 
 pub returns-in-OfImage-clause-ran : goal.returns-in-OfImage-clause-ran
-returns-in-OfImage-clause-ran g c = rw c.in-OfImage.is (other_asked c.of_image.result)
+returns-in-OfImage-clause-ran g c = rw c.in-OfImage.is c.of_image.ensures.ran
 
 pub returns-in-Make-clause-ran : goal.returns-in-Make-clause-ran
 returns-in-Make-clause-ran g c = rw c.in-Make.is (other_asked c.make.result)
@@ -61,10 +52,10 @@ pub returns-in-Link-clause-ran : goal.returns-in-Link-clause-ran
 returns-in-Link-clause-ran g c = rw c.in-Link.is (other_asked c.link.result)
 
 pub returns-in-Replay-clause-ran : goal.returns-in-Replay-clause-ran
-returns-in-Replay-clause-ran g c = rw c.in-Replay.is (other_asked c.replay.result)
+returns-in-Replay-clause-ran g c = rw c.in-Replay.is c.replay.ensures.ran
 
 pub returns-in-Record-clause-ran : goal.returns-in-Record-clause-ran
-returns-in-Record-clause-ran g c = rw c.in-Record.is (other_asked c.record.result)
+returns-in-Record-clause-ran g c = rw c.in-Record.is c.record.ensures.ran
 
 pub returns-in-Trial-clause-ran : goal.returns-in-Trial-clause-ran
 returns-in-Trial-clause-ran g c = rw c.in-Trial.is (other_asked c.trial.result)
@@ -79,7 +70,7 @@ returns-in-RunImprecise-clause-ends g c =
     (shelf_change g.H.Shelf c.args.devices.now.shelf c.imprecise.new.devices.shelf) c.imprecise.ensures.ends)
 
 pub returns-in-OfImage-clause-ends : goal.returns-in-OfImage-clause-ends
-returns-in-OfImage-clause-ends g c = rw c.in-OfImage.is tt
+returns-in-OfImage-clause-ends g c = rw c.in-OfImage.is c.of_image.ensures.ends
 
 pub returns-in-Make-clause-ends : goal.returns-in-Make-clause-ends
 returns-in-Make-clause-ends g c = rw c.in-Make.is tt
