@@ -9,7 +9,7 @@ import struct
 from collections import namedtuple
 
 import families
-from families import lines, wild
+from families import lines, state, wild
 from parts import files
 
 HERE = os.path.dirname(os.path.abspath(__file__))
@@ -89,7 +89,12 @@ def long_source(words, condition):
 LINES = {"branches": ("Branches, 1 where they are taken.", lines.branches),
          "addresses": ("LDA and LDAH.", lines.addresses),
          "bases": ("Loads whose base is loaded, stores, links, and what R31 takes.", lines.bases),
-         "flags": ("Conditional stores behind each kind of word, 1 where the flag was still set.", lines.flags)}
+         "flags": ("Conditional stores behind each kind of word, 1 where the flag was still set.", lines.flags),
+         "flags-zero": ("As values-flags, of the block at address 0.", lambda: lines.flags("$31"), state.LOW),
+         "locks": ("Locked loads and conditional stores whose registers are one, and the block at address 0.",
+                   state.locks, state.LOW),
+         "far": ("Two addresses that differ in one bit.", state.far, state.FAR, state.FAR_BEHIND),
+         "pairs": ("An access to one region behind one to another.", state.pairs, state.LOW, state.ODD_FAR)}
 
 
 def made_sources():
@@ -101,7 +106,8 @@ def made_sources():
     made |= {f"values-forms-{name}": lines.source("Registers that are alike, R31, and literals.",
                                                   list(lines.forms(names)), 2)
              for name, names in FORMS.items()}
-    made |= {f"values-{name}": lines.source(about, list(rows_of()), 2) for name, (about, rows_of) in LINES.items()}
+    made |= {f"values-{name}": lines.source(about, list(rows_of()), 2, *around)
+             for name, (about, rows_of, *around) in LINES.items()}
     two = files.read_text(os.path.join(HERE, "sources", "late-two.s")).split("\n", 2)[2]
     made |= {f"late-two-{steps}": f"# As late-two, which exits with its ninth step, by {steps} steps.\n{two}"
              for steps in (4, 5, 8, 9)}
@@ -171,6 +177,7 @@ CASES = {
     "values-counts": PLAIN._replace(given=pairs(), is_watched=False),
     "values-products": PLAIN._replace(given=bounds(), is_watched=False, completions=("wrap", "saturate")),
     **{f"values-forms-{name}": PLAIN._replace(given=few(), is_watched=False) for name in FORMS},
+    "values-forms-triggers": PLAIN._replace(given=few(), is_watched=False, completions=("wrap", "saturate")),
     **{f"values-{name}": PLAIN._replace(given=values() if name == "branches" else few(), is_watched=False)
        for name in LINES},
     **{name: PLAIN._replace(completions=ALL, journals=("1", "2", "3", "late")) for name in wild.sources()},

@@ -1,21 +1,22 @@
 """The small cases of the suite, by families: what stands in sources/ beside them, and a row of cases.tsv for each."""
 import functools
 
-from . import following, images, late, runs
+from . import following, images, late, runs, state
 
 
 @functools.lru_cache
 def all_blocks():
     """The images of blocks."""
-    return [made for family in (late, following, runs) for made in family.families()]
+    return [made for family in (late, following, runs, state) for made in family.families()]
 
 
 @functools.lru_cache
 def sources():
     """The sources of the images of all families, by name."""
-    return {made.image: made.text() for made in all_blocks()} | {"reads-long": runs.READER}
+    return {made.image: made.text() for made in all_blocks()} | {"reads-long": runs.READER, "late-first": state.FIRST}
 
 
 def rows():
     """All rows."""
-    return [row for made in all_blocks() for row in made.rows] + list(runs.reader_rows()) + list(images.rows())
+    return ([row for made in all_blocks() for row in made.rows] + list(runs.reader_rows()) + list(state.first_rows())
+            + list(images.rows()))

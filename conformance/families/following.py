@@ -74,7 +74,17 @@ def ends():
         other_numbers(refused, kind)
         other_kinds(refused, kind)
         items_behind(refused, kind)
+    zeros(made)
     return made
+
+
+def zeros(made):
+    """Ends with a number that is 0, told to be another."""
+    for name, where in (("exit", FIRST), ("bpt", FIRST), ("access", SECOND)):
+        for value in (1, 8, 1 << 32, 1 << 63):
+            made.row("refuse", f"zero-{name}-{value:x}", name,
+                     f"a number of the end {name} is 0, and is told to be {value:#x}", late.OVERFLOWS | {6: 0}, [],
+                     change=field(where, value), answer=NO_END)
 
 
 def other_numbers(refused, kind):
@@ -87,6 +97,8 @@ def other_numbers(refused, kind):
                     lambda kept, where=where, number=number, bit=bit: field(where,
                                                                             kept.ending[1 + number] ^ 1 << bit)(kept),
                     NO_END if number < used else NO_FIELD.format(3))
+        if number < used and (kind, name) != ("signal", "first"):
+            refused(f"{name}-zero", f"its {name} number is 0", field(where, 0), NO_END)
 
 
 def other_kinds(refused, kind):

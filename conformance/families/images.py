@@ -155,6 +155,81 @@ def overlaps():
               "a segment without bytes within another")
 
 
+def memory(opcode, register, base, displacement=0):
+    """A word of a load, a store, LDA or LDAH."""
+    return opcode << 26 | register << 21 | base << 16 | displacement & 0xFFFF
+
+
+LDA, LDAH, LDL, LDQ, STQ = 0x08, 0x09, 0x28, 0x29, 0x2D
+
+
+def reached(address, *words):
+    """Code that has an address in $1, and exits by what these words leave in $16."""
+    return [memory(LDAH, 1, 31, address + 0x8000 >> 16), memory(LDA, 1, 1, address), *words, EXIT[0], CALLSYS]
+
+
+def found():
+    """Accesses where an empty segment has the same base, or one within a region."""
+    store = [memory(STQ, 1, 1), memory(LDQ, 16, 1)]
+    within, page = [Segment(DATA, zeroed=3 * PAGE), Segment(DATA + PAGE)], DATA + PAGE
+    for name, address, segments in (("inside", page, within), ("behind", page + 8, within),
+                                    ("last", page + 2 * PAGE - 8, within), ("before", page - 8, within),
+                                    ("stack", TOP - 65_536, [Segment(TOP - 65_536)]),
+                                    ("stack-next", TOP - 65_528, [Segment(TOP - 65_536)]),
+                                    ("stack-within", TOP - 32_768, [Segment(TOP - 32_768)]),
+                                    ("zero", 0, [Segment(0), Segment(PAGE, zeroed=PAGE)]),
+                                    ("alone", DATA, [Segment(DATA)]),
+                                    ("next", DATA, [Segment(DATA - PAGE, zeroed=PAGE), Segment(DATA)])):
+        yield row(f"found-{name}", second(reached(address, *store), segments=segments),
+                  f"an access at {address:#x}, with an empty segment at {segments[-1].base:#x}"
+                  if name != "zero" else "an access at 0, where a segment without bytes is")
+    for name, address in (("code", BASE), ("code-next", BASE + 4), ("code-end", BASE + 24)):
+        yield row(f"found-{name}", second(reached(address, memory(LDL, 16, 1)), segments=[Segment(BASE)]),
+                  f"a load at {address:#x} from the code, with an empty segment at its base")
+    yield row("found-code-within",
+              second([*[NOP] * 2_048, *reached(BASE + PAGE, memory(LDL, 16, 1))], segments=[Segment(BASE + PAGE)]),
+              "a load from the code, with an empty segment within it")
+    most, none = [Segment(DATA + n * PAGE, zeroed=8) for n in range(8)], []
+    for name, segments, address in (("most-stack", most, TOP - 8), ("most-last", most, DATA + 7 * PAGE),
+                                    ("most-first", most, DATA), ("none-stack", none, TOP - 65_536)):
+        yield row(f"found-{name}", second(reached(address, *store), segments=segments),
+                  f"a store at {address:#x} and a load, with {len(segments)} segments")
+    yield row("found-most-code", second(reached(BASE + 4, memory(LDL, 16, 1)), segments=most),
+              "a load from the code, with eight segments")
+    yield row("found-first", first(reached(BASE, memory(LDL, 16, 1)), segment=Segment(BASE)), "the same by version 1")
+
+
+def distant():
+    """Words whose places differ in one bit, which are run one behind the other."""
+    words, base = [NOP] * MOST_WORDS, 0x20
+    places = [base, *(base ^ 1 << bit for bit in range(2, 18) if bit != 5)]
+    for number, place in enumerate(places, 1):
+        # s4addq $16,number,$16; ret $31,($26)
+        words[place:place + 2] = [0x42001450 | number << 13, 0x6BFA8000]
+    # br $31 to the calls, and each of those a bsr $26
+    start = 0x140
+    words[0] = 0xC3E00000 | start - 1
+    for at, place in enumerate([*places, *places[::-1]], start):
+        words[at] = 0xD3400000 | place - at - 1 & 0x1FFFFF
+    for at, word in enumerate((EXIT[0], CALLSYS), start + 2 * len(places)):
+        words[at] = word
+    yield row("distant", first(words), "words of 262,144 whose places differ in one bit, one behind the other, twice")
+
+
+def zeros():
+    """Ends at address 0."""
+    # bpt, bugchk, gentrap; ldq $5,8($31); stq $5,0($31); ldq $5,1($31); jmp $31,($31)
+    told = {"bpt": 0x80, "bugchk": 0x81, "gentrap": 0xAA, "access": memory(LDQ, 5, 31, 4_096),
+            "store": memory(STQ, 5, 31), "align": memory(LDQ, 5, 31, 1),
+            "high": memory(LDQ, 5, 31, -8)}
+    for name, word in told.items():
+        yield row(f"zero-{name}", first([word, *EXIT], base=0),
+                  f"the word {word:08x} at address 0, which ends the program there")
+    yield row("zero-fetch", first([0x6BFF0000, *EXIT]), "a jump to address 0, where no code is")
+    yield row("zero-load", first([NOP, *EXIT[:1], memory(LDL, 16, 31), CALLSYS], base=0),
+              "a load from the code at address 0")
+
+
 def levels():
     for level in (0, 3, 4, 256, 258, (1 << 31) + 1, (1 << 32) - 1):
         yield row(f"level-{level}", second(level=level), f"the level {level}", field(9))
@@ -279,5 +354,5 @@ def words():
 
 
 def rows():
-    for part in (bases, sizes, entries, overlaps, levels, lengths, orders, words):
+    for part in (bases, sizes, entries, overlaps, found, distant, zeros, levels, lengths, orders, words):
         yield from part()

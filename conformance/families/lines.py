@@ -3,12 +3,13 @@ from . import late
 
 PER_LINE = 6
 READ = ["ldah $9,0x1000($31)", "next: lda $0,3($31)", "clr $16", "mov $9,$17", "lda $18,24($31)", "callsys",
-        "subq $0,24,$4", "bne $4,end", "ldq $1,0($9)", "ldq $2,8($9)"]
+        "subq $0,24,$4", "bne $4,end",
+        "ldq $1,0($9)", "ldq $2,8($9)"]
 
 
-def source(what, lines, level=1):
+def source(what, lines, level=1, front=(), back=()):
     """A program that reads three quadwords, and writes what each line leaves in $3, until the input ends. `lines` has a
-    text for each, and its words."""
+    text for each, and its words; `front` and `back` have further segments."""
     said = [f"# {what} With a, b and c of each 24 bytes of the input in $1, $2 and $3, a quadword of output for each "
             f"of these lines:"]
     texts = [text for text, _ in lines]
@@ -20,10 +21,10 @@ def source(what, lines, level=1):
     size = 8 * len(lines)
     calls = ["lda $0,4($31)", "lda $16,1($31)", "lda $17,24($9)", f"lda $18,{size}($31)", "callsys", "br next",
              "end: clr $16", "lda $0,1($31)", "callsys"]
-    head = [f"        .level {level}", "        .segment 0x10000000"] if level == 2 else ["        .data"]
+    head = [f"        .level {level}", *front, "        .segment 0x10000000"] if level == 2 else ["        .data"]
     code = [word if ": " in word else f"        {word}" for word in [f"start: {READ[0]}", *READ[1:], *body, *calls]]
-    return ("\n".join([*said, *head, f"        .zero {24 + size}", "        .code", *code, "        .entry start"])
-            + "\n")
+    return ("\n".join([*said, *head, f"        .zero {24 + size}", *back, "        .code", *code,
+                       "        .entry start"]) + "\n")
 
 
 def forms(names):
@@ -91,12 +92,12 @@ def bases():
                ["br $5,.+4", "lda $5,16($5)", f"{name} $31,($5),8191", "clr $3", "addq $31,$3,$3"])
 
 
-def flags():
+def flags(base="$9"):
     """Whether the lock flag is still set behind each kind of word: 1 where it is."""
     lines = late.with_destination()
     for name in ("stl_c", "stq_c", *late.JUMPS):
         del lines[name]
-    lines |= ({name: f"{name} $1,0($9)" for name in late.STORES[:5]}
+    lines |= ({name: f"{name} $1,0({base})" for name in late.STORES[:5]}
               | {name: f"{name} $31,.+4" for name in late.BRANCHES})
     lines |= ({name: name for name in ("mb", "wmb", "trapb", "excb", "imb", "rdunique", "wrunique", "callsys")}
               | {"fetch": "fetch 0($9)", "fetch_m": "fetch_m 0($9)"})
@@ -104,21 +105,23 @@ def flags():
         before = ["lda $4,5($31)", "lda $6,3($31)", "mov $9,$7"] + (["lda $0,9($31)"] if name == "callsys" else [])
         if "ld" in name and name not in ("lda", "ldah"):
             line = line.replace("72($9)", "24($9)")
-        yield f"stq_c behind {line}", [*before, "ldq_l $5,8($9)", line, "lda $3,7($31)", "stq_c $3,0($9)"]
+        yield f"stq_c behind {line}", [*before, f"ldq_l $5,8({base})", line, "lda $3,7($31)", f"stq_c $3,0({base})"]
     for name, words in (("a write", ["lda $0,4($31)", "lda $16,1($31)", "clr $18"]),
                         ("a read", ["lda $0,3($31)", "clr $16", "clr $18"]),
                         ("a write elsewhere", ["lda $0,4($31)", "lda $16,2($31)"])):
-        yield f"stq_c behind {name}", [*words, "ldq_l $5,8($9)", "callsys", "lda $3,7($31)", "stq_c $3,0($9)"]
+        yield f"stq_c behind {name}", [*words, f"ldq_l $5,8({base})", "callsys", "lda $3,7($31)", f"stq_c $3,0({base})"]
     for first in ("ldl_l", "ldq_l"):
         for last in ("stl_c", "stq_c"):
             for at, other in ((0, 8), (8, 0), (0, 16), (16, 8), (0, 32)):
                 yield (f"{last} of {other} behind {first} of {at}",
-                       [f"{first} $5,{at}($9)", "lda $3,7($31)", f"{last} $3,{other}($9)"])
-            yield f"a second {last}", [f"{first} $5,0($9)", f"{last} $4,0($9)", "lda $3,7($31)", f"{last} $3,0($9)"]
-            yield f"{last} without {first}", ["lda $3,7($31)", f"{last} $3,0($9)"]
+                       [f"{first} $5,{at}({base})", "lda $3,7($31)", f"{last} $3,{other}({base})"])
+            yield (f"a second {last}",
+                   [f"{first} $5,0({base})", f"{last} $4,0({base})", "lda $3,7($31)", f"{last} $3,0({base})"])
+            yield f"{last} without {first}", ["lda $3,7($31)", f"{last} $3,0({base})"]
             yield (f"{last} behind {first} and one of another block",
-                   [f"{first} $5,0($9)", f"{last} $4,32($9)", "lda $3,7($31)", f"{last} $3,0($9)"])
+                   [f"{first} $5,0({base})", f"{last} $4,32({base})", "lda $3,7($31)", f"{last} $3,0({base})"])
             yield (f"{last} of the second of two {first}",
-                   [f"{first} $5,0($9)", f"{first} $5,16($9)", "lda $3,7($31)", f"{last} $3,0($9)"])
+                   [f"{first} $5,0({base})", f"{first} $5,16({base})", "lda $3,7($31)", f"{last} $3,0({base})"])
     for name in ("addl/v", "subl/v", "mull/v", "addq/v", "subq/v", "mulq/v"):
-        yield f"stq_c behind {name} $1,$2", ["ldq_l $5,8($9)", f"{name} $1,$2,$4", "lda $3,7($31)", "stq_c $3,0($9)"]
+        yield (f"stq_c behind {name} $1,$2",
+               [f"ldq_l $5,8({base})", f"{name} $1,$2,$4", "lda $3,7($31)", f"stq_c $3,0({base})"])
