@@ -40,7 +40,7 @@ def fault_lines():
 def other_lines():
     """The lines that are put together piece by piece, and those that are words alone."""
     yield from re.findall(r'text\(b"([^"]*)\\n"\)', crate("alpha_cmd/src/line.rt"))
-    for path in ("alpha_cmd/src/line.rt", "alpha_seq/src/lines.rt", "alpha_shadow/src/report.rt"):
+    for path in ("alpha_cmd/src/line.rt", "alpha_seq/src/lines.rt", "alpha_verdict/src/report.rt"):
         line = ""
         for text, is_hex, is_decimal, is_end in PIECE.findall(crate(path)):
             if is_end and line:

@@ -50,10 +50,14 @@ def data(name):
 
 
 def source(path):
-    """The path of a file of crates/, which isn't there where the companions are installed."""
-    path = os.path.join(TOP, "crates", path)
-    if not os.path.exists(path):
+    """The path of a file of crates/. Those aren't there where the companions are installed; where they are, a file that
+    is missing among them has another name now, and what a test reads there must not be passed over."""
+    crates = os.path.join(TOP, "crates")
+    if not os.path.isdir(os.path.join(crates, "alpha_cmd")):
         raise Lacking("the sources of the program aren't beside the companions")
+    path = os.path.join(crates, path)
+    if not os.path.exists(path):
+        raise Failed(f"{path} isn't there")
     return path
 
 
