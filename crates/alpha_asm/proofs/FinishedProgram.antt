@@ -41,7 +41,7 @@ use Rattle.alpha_asm.specs.Patches.{Fix, fix, fix_of, entry_view, cell_fixes, fi
 use Rattle.alpha_asm.specs.Patches.{names_of, overlaid, code_at, code_with, bytes_with, code_after, bytes_after}
 use Rattle.alpha_asm.specs.Pass.{place_of, location_at, fields_read, Filled, Sound, Leveled, PassSimulates}
 use Rattle.alpha_asm.proofs.Levels.{insns-after}
-use Rattle.alpha_asm.proofs.Whole.{code_after-code_in, bytes_whole}
+use Rattle.alpha_asm.proofs.IsWhole.{code_after-code_in, bytes_whole}
 
 pub made_so : (is : List LineStmt) (p : Pass) → PassSimulates is p
     → assembled_program is ≡ made_at is (option_map entry_view p.fields.entry)

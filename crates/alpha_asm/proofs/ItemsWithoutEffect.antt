@@ -7,7 +7,7 @@ use Rattle.alpha_text.specs.Statements.{Stmt}
 use Rattle.alpha_text.specs.Statements as says
 use Rattle.alpha_text.specs.Reading.{LineStmt}
 use Rattle.alpha_asm.specs.declared.pass.Pass.{Pass}
-use Rattle.alpha_asm.specs.Statement.{InsnStmt, coded, cells, section_in, level_in, segment_in, zeroed_in, align_in}
+use Rattle.alpha_asm.specs.Statement.{InsnStmt, coded, cells, section_in, level_in, segment_in, zero_bytes_in, align_in}
 use Rattle.alpha_asm.specs.Statement.{is_statement, code_base_in, data_base_in, stack_in, entry_in}
 use Rattle.alpha_asm.specs.Layout.{Place, Fields, place_after, filled_pad, with_fields}
 use Rattle.alpha_asm.specs.Patches.{fix_of, raw_bytes}
@@ -21,7 +21,7 @@ record IsPlain (s : Stmt) : Type 0 where
   no_section : section_in s ≡ None
   no_level : level_in s ≡ None
   no_segment : segment_in s ≡ None
-  no_zeroed : zeroed_in s ≡ None
+  no_zeroed : zero_bytes_in s ≡ None
   no_align : align_in s ≡ None
   no_code_base : code_base_in s ≡ None
   no_data_base : data_base_in s ≡ None

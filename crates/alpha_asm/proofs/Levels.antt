@@ -19,7 +19,7 @@ use Rattle.alpha_asm.specs.declared.patch.Displacement.TheVariants.{Words, Bytes
 use Rattle.alpha_asm.specs.Program.{Known, Target, by_insn, by_cell, by_entry, address_of, reached, displaced}
 use Rattle.alpha_asm.specs.Patches.{Fix, raw_insns, code_at, code_with, code_after}
 use Rattle.alpha_asm.specs.Pass.{IsAtLevel, Leveled}
-use Rattle.alpha_asm.proofs.Sound.{or_true-not_false, or_false-identity}
+use Rattle.alpha_asm.proofs.SoundPlaces.{or_true-not_false, or_false-identity}
 
 -- an instruction that is not misplaced is there at the level
 placed_at : (elsewhere : Bool) (level : Option ℕ) (i : Form)

@@ -6,12 +6,12 @@ pub mod ReachedAddresses
 pub mod LineRefusals
 pub mod PassUnderway
 pub mod PutAddresses
-pub mod Whole
-pub mod Sound
+pub mod IsWhole
+pub mod SoundPlaces
 pub mod FinishedProgram
 pub mod ItemsWithoutEffect
 pub mod DataGaps
-pub mod Cells
+pub mod StatementCells
 pub mod RefusedReading
 pub mod ModuleLines
 pub mod Levels

@@ -13,7 +13,7 @@ use Rattle.alpha_text.specs.Statements.{Stmt}
 use Rattle.alpha_text.specs.Statements as says
 use Rattle.alpha_text.specs.References.{IsLabel, IsListedWell, RefersWell, IsWell}
 use Rattle.alpha_text.specs.Reading.{LineStmt, read}
-use Rattle.alpha_text.proofs.Items.{list-whole}
+use Rattle.alpha_text.proofs.ItemLists.{list-whole}
 use Rattle.alpha_text.proofs.References.{read-well}
 use Rattle.alpha_asm.specs.declared.kind.SourceKind.TheVariants.{Module}
 use Rattle.alpha_asm.specs.declared.fault.AsmFault.TheVariants.{Duplicate, Section, LongLine}
@@ -23,7 +23,7 @@ use Rattle.alpha_asm.specs.Layout.{is_allowed_in_module}
 use Rattle.alpha_asm.specs.Layout.{is_misplaced, repeats_field, repeats_label}
 use Rattle.alpha_asm.specs.Assembled.{item_at, refused_read, refused, first_refused}
 use Rattle.alpha_asm.specs.Unlinked.{IsReached, IsCell, IsUnlinked}
-use Rattle.alpha_asm.proofs.Cells.{values_cells}
+use Rattle.alpha_asm.proofs.StatementCells.{values_cells}
 use Rattle.alpha_asm.proofs.RefusedReading.{option_or-None}
 
 -- labels of a line are no longer than a longer one

@@ -17,7 +17,7 @@ use Rattle.alpha_asm.specs.Layout.{repeats_label}
 use Rattle.alpha_asm.specs.Patches.{raw_insns, raw_cell, raw_cells, raw_bytes, fixes, fixes_in}
 use Rattle.alpha_asm.specs.Pass.{place_of, location_at, with_label, here, AddsItem, PassSimulates}
 use Rattle.alpha_asm.proofs.DataValues.{length-raw_cell}
-use Rattle.alpha_asm.proofs.Sound.{sound-place_after}
+use Rattle.alpha_asm.proofs.SoundPlaces.{sound-place_after}
 use Rattle.alpha_asm.proofs.Levels.{leveled-place_after}
 
 abbrev pub item_behind : List LineStmt → LineStmt → Placed

@@ -58,15 +58,15 @@ PassUnderway-refused kind source rest line more old fault u e why =
     ∙ (ap (first_refused kind u.items) e
     ∙ ap (λ o. option_or o (first_refused kind (u.items ++ item_at line ∷ []) (lines more))) (why u.items u.stands))
 
-empty_list : {A : Type 0} (xs : List A) → length xs ≡ 0 → xs ≡ []
-empty_list [] h = refl
-empty_list (x ∷ xs) h = absurd (omega arith)
+empty-from_length : {A : Type 0} (xs : List A) → length xs ≡ 0 → xs ≡ []
+empty-from_length [] h = refl
+empty-from_length (x ∷ xs) h = absurd (omega arith)
 
 pub ends_stands : (kind : SourceKind) (source rest : List ℕ) (p : Pass) → PassUnderway kind source rest p
     → length rest ≡ 0
     → PassSimulates (map item_at (lines source)) p
 ends_stands kind source rest p u h =
-    let e : rest ≡ [] = empty_list rest h in
+    let e : rest ≡ [] = empty-from_length rest h in
     let all : u.items ≡ map item_at (lines source) =
     sym (append-nil u.items) ∙ (ap (λ r. u.items ++ map item_at (lines r)) (sym e) ∙ u.all) in
     rw (← all) u.stands
@@ -75,7 +75,7 @@ pub ends_taken : (kind : SourceKind) (source rest : List ℕ) (p : Pass) → Pas
     → length rest ≡ 0
     → first_refused kind [] (lines source) ≡ None
 ends_taken kind source rest p u h =
-    let e : rest ≡ [] = empty_list rest h in
+    let e : rest ≡ [] = empty-from_length rest h in
     sym u.refusals ∙ ap (λ r. first_refused kind u.items (lines r)) e
 
 -- the kinds of the lines so far
@@ -93,4 +93,4 @@ kinds_go_on first old new source rest line more e pushed all =
 pub kinds_end : (first old : List LineKind) (source rest : List ℕ) → length rest ≡ 0
     → old ++ kinds_in rest ≡ first ++ kinds_in source → old ≡ first ++ kinds_in source
 kinds_end first old source rest h all =
-    sym (append-nil old) ∙ (ap (λ r. old ++ kinds_in r) (sym (empty_list rest h)) ∙ all)
+    sym (append-nil old) ∙ (ap (λ r. old ++ kinds_in r) (sym (empty-from_length rest h)) ∙ all)

@@ -90,8 +90,8 @@ PutUpTo-undefined k patches i p code0 code bytes0 bytes out_of_range e missing u
     ∙ (ap (λ ps. first (undefined_line k) (names_of ps)) e
     ∙ ap (λ o. option_or o (first (undefined_line k) (names_of (drop (i + 1) patches)))) some)
 
-empty_behind : {A : Type 0} (xs : List A) (i : ℕ) → length xs ≤ i → drop i xs ≡ []
-empty_behind xs i h = drop_of_length-le xs h
+drop-past_end : {A : Type 0} (xs : List A) (i : ℕ) → length xs ≤ i → drop i xs ≡ []
+drop-past_end xs i h = drop_of_length-le xs h
 
 pub PutUpTo-all : (k : Known) (patches : List Patch) (i : ℕ)
     (code0 code : List Form) (bytes0 bytes : List ℕ) (out_of_range : Option ℕ)
@@ -100,7 +100,7 @@ pub PutUpTo-all : (k : Known) (patches : List Patch) (i : ℕ)
     × (out_of_range ≡ first (out_of_range_line k) (names_of patches))
     × (code ≡ code_after k (map fix_of patches) code0) × (bytes ≡ bytes_after k (map fix_of patches) bytes0)
 PutUpTo-all k patches i code0 code bytes0 bytes out_of_range h u =
-    let e : drop i patches ≡ [] = empty_behind patches i h in (
+    let e : drop i patches ≡ [] = drop-past_end patches i h in (
       sym (ap (λ ps. first (undefined_line k) (names_of ps)) e) ∙ u.undefined,
       sym (ap (λ ps. option_or out_of_range (first (out_of_range_line k) (names_of ps))) e
           ∙ or_none-identity out_of_range)

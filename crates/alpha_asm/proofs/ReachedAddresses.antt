@@ -9,7 +9,7 @@ use Rattle.alpha_table.specs.declared.form.Form.{Form}
 use Rattle.alpha_table.specs.declared.form.Form.TheVariants.{Mem, Branch}
 use Rattle.alpha_table.specs.Columns.{level_of}
 use Rattle.alpha_table.specs.Row.{IsInsn, IsSigned}
-use Rattle.alpha_token.proofs.Choices.{cond-either}
+use Rattle.alpha_token.proofs.ConditionalChoices.{cond-either}
 use Rattle.alpha_asm.specs.declared.statement.RelocField.{RelocField}
 use Rattle.alpha_asm.specs.declared.statement.RelocField.TheVariants as uses
 use Rattle.alpha_asm.specs.declared.patch.Displacement.{Displacement}

@@ -7,8 +7,8 @@ use Rattle.std.proofs.lemmas.List.{append-nil}
 use Rattle.std.proofs.lemmas.Bool.Decides.{nat_tests}
 use Rattle.alpha_asm.specs.SourceLines.{SourceLine, ended, unended, line_bytes, line_text, longer, source_lines}
 
-abbrev feed : ℕ → Bool
-feed b = eqb b 10
+abbrev is_line_feed : ℕ → Bool
+is_line_feed b = eqb b 10
 
 bytes-longer : (b : ℕ) (ls : List SourceLine) → flat_map line_bytes (longer b ls) ≡ b ∷ flat_map line_bytes ls
 bytes-longer b [] = refl
@@ -39,10 +39,11 @@ last_text : (x : List ℕ) → lines_of_parts (x ∷ []) ≡ map line_text (last
 last_text [] = refl
 last_text (b ∷ t) = let z : eqb (suc (length t)) 0 ≡ false = grind (arith, nat_tests) in rw z refl
 
-texts : (parts : List (List ℕ)) → lines_of_parts parts ≡ map line_text (split_lines parts)
-texts [] = refl
-texts (x ∷ []) = last_text x
-texts (x ∷ y ∷ more) = ap (λ l. strip_carriage_return x ∷ l) (texts (y ∷ more))
+lines_of_parts-split_lines : (parts : List (List ℕ)) → lines_of_parts parts ≡ map line_text (split_lines parts)
+lines_of_parts-split_lines [] = refl
+lines_of_parts-split_lines (x ∷ []) = last_text x
+lines_of_parts-split_lines (x ∷ y ∷ more) =
+    ap (λ l. strip_carriage_return x ∷ l) (lines_of_parts-split_lines (y ∷ more))
 
 split-onto : (b : ℕ) (parts : List (List ℕ)) → split_lines (onto_first b parts) ≡ longer b (split_lines parts)
 split-onto b [] = refl
@@ -55,25 +56,28 @@ more_parts : (x : List ℕ) (b : ℕ) (parts : List (List ℕ))
 more_parts x b [] = refl
 more_parts x b (p ∷ ps) = refl
 
-behind_part : (x s : List ℕ) → split_lines (x ∷ slice_split feed s) ≡ ended x ∷ split_lines (slice_split feed s)
+behind_part : (x s : List ℕ)
+    → split_lines (x ∷ slice_split is_line_feed s) ≡ ended x ∷ split_lines (slice_split is_line_feed s)
 behind_part x [] = refl
 behind_part x (b ∷ s) =
-    elim (feed b) as (λ t. split_lines (x ∷ cond t ([] ∷ slice_split feed s) (onto_first b (slice_split feed s)))
-    ≡ ended x ∷ split_lines (cond t ([] ∷ slice_split feed s) (onto_first b (slice_split feed s))))
-    [ true ↦ refl | false ↦ more_parts x b (slice_split feed s) ]
+    elim (is_line_feed b) as (λ t.
+    split_lines (x ∷ cond t ([] ∷ slice_split is_line_feed s) (onto_first b (slice_split is_line_feed s)))
+    ≡ ended x ∷ split_lines (cond t ([] ∷ slice_split is_line_feed s) (onto_first b (slice_split is_line_feed s))))
+    [ true ↦ refl | false ↦ more_parts x b (slice_split is_line_feed s) ]
 
-split_step : (b : ℕ) (s : List ℕ) (t : Bool) → source_lines s ≡ split_lines (slice_split feed s)
+split_step : (b : ℕ) (s : List ℕ) (t : Bool) → source_lines s ≡ split_lines (slice_split is_line_feed s)
     → cond t (ended [] ∷ source_lines s) (longer b (source_lines s))
-    ≡ split_lines (cond t ([] ∷ slice_split feed s) (onto_first b (slice_split feed s)))
+    ≡ split_lines (cond t ([] ∷ slice_split is_line_feed s) (onto_first b (slice_split is_line_feed s)))
 split_step b s true h = ap (λ l. ended [] ∷ l) h ∙ sym (behind_part [] s)
-split_step b s false h = ap (longer b) h ∙ sym (split-onto b (slice_split feed s))
+split_step b s false h = ap (longer b) h ∙ sym (split-onto b (slice_split is_line_feed s))
 
-split : (s : List ℕ) → source_lines s ≡ split_lines (slice_split feed s)
-split [] = refl
-split (b ∷ s) = split_step b s (eqb b 10) (split s)
+source_lines-slice_split : (s : List ℕ) → source_lines s ≡ split_lines (slice_split is_line_feed s)
+source_lines-slice_split [] = refl
+source_lines-slice_split (b ∷ s) = split_step b s (eqb b 10) (source_lines-slice_split s)
 
 pub texts_of : (s : List ℕ) → lines s ≡ map line_text (source_lines s)
-texts_of s = texts (slice_split feed s) ∙ ap (map line_text) (sym (split s))
+texts_of s =
+    lines_of_parts-split_lines (slice_split is_line_feed s) ∙ ap (map line_text) (sym (source_lines-slice_split s))
 
 -- lines of which a text can be made: no line feed within, and only the last one without an end
 

@@ -18,7 +18,7 @@ use Rattle.alpha_asm.specs.declared.place.Section.TheVariants as sections
 use Rattle.alpha_asm.specs.declared.place.LabelLocation.{LabelLocation}
 use Rattle.alpha_asm.specs.declared.place.LabelLocation.TheVariants as spots
 use Rattle.alpha_asm.specs.declared.statement.RelocField.TheVariants.{High, Low}
-use Rattle.alpha_asm.specs.Statement.{applies_to, coded, data_size, section_in, level_in, segment_in, zeroed_in}
+use Rattle.alpha_asm.specs.Statement.{applies_to, coded, data_size, section_in, level_in, segment_in, zero_bytes_in}
 use Rattle.alpha_asm.specs.Statement.{align_in, is_statement, code_base_in, data_base_in, stack_in, Entry, entry_in}
 
 -- The place of an item: what the items before it have made.
@@ -71,7 +71,7 @@ abbrev pub grown : Place → Stmt → Segment
 grown p s = record {
   base = p.last.base;
   filled = p.last.filled + (data_size s + filled_pad p s);
-  zeroed = p.last.zeroed + (unwrap_or (zeroed_in s) 0 + zeroed_pad p s);
+  zeroed = p.last.zeroed + (unwrap_or (zero_bytes_in s) 0 + zeroed_pad p s);
 }
 
 abbrev pub earlier_behind : Place → Stmt → List Segment
@@ -89,7 +89,7 @@ place_after p s = record {
   words = p.words + (if is_some (coded s) then 1 else 0);
   earlier = earlier_behind p s;
   last = last_behind p s;
-  has_zero = is_none (segment_in s) && (p.has_zero || is_some (zeroed_in s));
+  has_zero = is_none (segment_in s) && (p.has_zero || is_some (zero_bytes_in s));
 }
 
 -- an item where it stands; lines are numbered from 1

@@ -106,9 +106,9 @@ segment_in (says.segment base) = Some base
 segment_in _ = None
 
 -- the zeroed bytes that a `.zero` asks for
-abbrev pub zeroed_in : Stmt → Option ℕ
-zeroed_in (says.zero n) = Some n
-zeroed_in _ = None
+abbrev pub zero_bytes_in : Stmt → Option ℕ
+zero_bytes_in (says.zero n) = Some n
+zero_bytes_in _ = None
 
 -- the power of two that an `.align` asks for
 abbrev pub align_in : Stmt → Option ℕ

@@ -12,7 +12,7 @@ use crate::kind::SourceKind;
 use crate::line_kind::LineKinds;
 use crate::lines::Line;
 use crate::pass::Pass;
-use crate::program::assembled_program;
+use crate::program::assemble_program;
 use alpha_image::Image;
 use std::alloc::Global;
 
@@ -31,7 +31,7 @@ pub fn assemble(alloc: Global, source: &[u8]) -> Result<Image, AsmFault>
 {
     let mut kinds = LineKinds::none(alloc);
     let pass = read_lines(alloc, SourceKind::Program, source, &mut kinds)?;
-    let (image, _labels) = assembled_program(pass)?;
+    let (image, _labels) = assemble_program(pass)?;
     Ok(image)
 }
 

@@ -45,7 +45,7 @@ impl<'a> Labels<'a> {
     }
 
     /// Where the label with a number is defined, `None` exactly where none has it.
-    pub fn numbered(&self, number: usize) -> Option<LabelLocation>
+    pub fn location_of_number(&self, number: usize) -> Option<LabelLocation>
         ensures { result
             ≡ option_and_then (location_named self.now) (slice_get (label_names self.now) number) }
     {

@@ -71,7 +71,7 @@ pub(crate) struct LineKinds {
 
 impl LineKinds {
     /// Of no line, to be gathered.
-    pub(crate) fn gathered(alloc: Global) -> LineKinds
+    pub(crate) fn new(alloc: Global) -> LineKinds
         ensures gathers { result.gathers ≡ true }
         ensures items { result.items.items ≡ [] }
     {

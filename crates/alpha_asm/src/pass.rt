@@ -24,7 +24,7 @@ use crate::label::Labels;
 use crate::line_kind::LineKinds;
 use crate::output::{Output, push_entry};
 use crate::place::Place;
-use crate::statement::{InsnStmt, coded_in, is_statement};
+use crate::statement::{InsnStmt, insn_stmt_in, is_statement};
 use alpha_quick::{Unparsed, read_insn};
 use alpha_table::Insn;
 use alpha_text::{Item, Statement};
@@ -207,7 +207,7 @@ impl<'a> Pass<'a> {
         ensures labels { self.new.labels ≡ self.old.labels }
         ensures bounded { OnOk result (IsBounded self.new) }
     {
-        match coded_in(&item.statement) {
+        match insn_stmt_in(&item.statement) {
             Some(coded) => self.add_insn(&coded),
             None if is_statement(&item.statement) => self.add_other(item),
             None => {
@@ -224,7 +224,7 @@ impl<'a> Pass<'a> {
         ensures labels { self.new.labels ≡ self.old.labels }
     {
         let line = self.line + 1;
-        self.output.push_coded(line, coded)?;
+        self.output.push_insn_stmt(line, coded)?;
         self.place.begun = true;
         self.line = line;
         Ok(())

@@ -7,7 +7,7 @@ ghost use Rattle.alpha_asm.specs.Layout.{start, is_data, pad, padding, location,
 ghost use Rattle.alpha_asm.specs.Layout.{place_after, last_behind, filled_pad, zeroed_pad};
 ghost use Rattle.alpha_asm.specs.Place.{place_of_code, IsSmall};
 
-use crate::statement::{is_statement, level_in, section_in, segment_in, zeroed_in};
+use crate::statement::{is_statement, level_in, section_in, segment_in, zero_bytes_in};
 use alpha_image::Segment;
 use alpha_table::{Insn, level_of};
 use alpha_text::Statement;
@@ -207,7 +207,7 @@ impl Place {
                 base: self.last.base,
                 filled: self.last.filled + added,
                 zeroed: self.last.zeroed
-                    + (u64::from(zeroed_in(statement).unwrap_or(0))
+                    + (u64::from(zero_bytes_in(statement).unwrap_or(0))
                         + u64::from(self.zeroed_pad(statement))),
             },
         }
@@ -230,7 +230,7 @@ impl Place {
     {
         let last = self.last_behind(statement, added);
         let begins = segment_in(statement).is_some();
-        let has_zero = !begins && (self.has_zero || zeroed_in(statement).is_some());
+        let has_zero = !begins && (self.has_zero || zero_bytes_in(statement).is_some());
         if begins {
             self.earlier.push(self.last)?;
         }

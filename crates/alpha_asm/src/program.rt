@@ -136,7 +136,7 @@ impl Finished {
 /// # Errors
 ///
 /// `NoEntry`, `Undefined`, `ImageField` or `Reach`, the first in this order.
-pub(crate) fn assembled_program<'a>(pass: Pass<'a>) -> Result<(Image, Labels<'a>), AsmFault>
+pub(crate) fn assemble_program<'a>(pass: Pass<'a>) -> Result<(Image, Labels<'a>), AsmFault>
     requires sound { Sound (place_of pass) (length pass.output.bytes.items) }
     requires leveled { Leveled (place_of pass) pass.output.code.items }
     ensures ok { IfOk result (λ r. (is : _) → PassSimulates is pass.entry

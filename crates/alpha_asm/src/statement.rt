@@ -1,7 +1,7 @@
 ghost use Rattle.std.specs.Prelude.{◌≡◌};
 ghost use Rattle.std.specs.Option.{option_map};
 ghost use Rattle.alpha_text.specs.Statements.{stmt_of};
-ghost use Rattle.alpha_asm.specs.Statement.{applies_to, coded, section_in, level_in, segment_in, zeroed_in};
+ghost use Rattle.alpha_asm.specs.Statement.{applies_to, coded, section_in, level_in, segment_in, zero_bytes_in};
 ghost use Rattle.alpha_asm.specs.Statement.{is_statement};
 ghost use Rattle.alpha_asm.specs.Patches.{coded_of};
 
@@ -43,7 +43,7 @@ pub(crate) struct InsnStmt<'a> {
 }
 
 /// The instruction of a statement.
-pub(crate) fn coded_in<'a>(statement: &Statement<'a>) -> Option<InsnStmt<'a>>
+pub(crate) fn insn_stmt_in<'a>(statement: &Statement<'a>) -> Option<InsnStmt<'a>>
     ensures { option_map coded_of result ≡ coded (stmt_of statement.now) }
 {
     match *statement {
@@ -96,8 +96,8 @@ pub(crate) fn segment_in(statement: &Statement<'_>) -> Option<u64>
 }
 
 /// The zeroed bytes that a `.zero` asks for.
-pub(crate) fn zeroed_in(statement: &Statement<'_>) -> Option<u32>
-    ensures { result ≡ zeroed_in (stmt_of statement.now) }
+pub(crate) fn zero_bytes_in(statement: &Statement<'_>) -> Option<u32>
+    ensures { result ≡ zero_bytes_in (stmt_of statement.now) }
 {
     match *statement {
         Statement::Zero(n) => Some(n),

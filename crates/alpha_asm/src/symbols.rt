@@ -12,7 +12,7 @@ use crate::kind::SourceKind;
 use crate::label::Labels;
 use crate::line_kind::{LineKind, LineKinds};
 use crate::place::LabelLocation;
-use crate::program::assembled_program;
+use crate::program::assemble_program;
 use alpha_image::Image;
 use std::alloc::Global;
 use std::marker::Model;
@@ -53,9 +53,9 @@ pub fn assemble_with_symbols<'a>(
     ensures refused { IfErr result (λ fault. fault ≢ faults.NoMemory
         → assembled source.now ≡ Err fault) }
 {
-    let mut kinds = LineKinds::gathered(alloc);
+    let mut kinds = LineKinds::new(alloc);
     let pass = read_lines(alloc, SourceKind::Program, source, &mut kinds)?;
-    let (image, labels) = assembled_program(pass)?;
+    let (image, labels) = assemble_program(pass)?;
     let kinds = kinds.items;
     Ok((
         image,

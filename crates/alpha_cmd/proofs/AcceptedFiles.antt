@@ -34,14 +34,15 @@ size_within : (version : Version) (n : Numbers) → FieldsFit n → size_of vers
 size_within One n fit = omega (arith, fit.words.1, fit.zeroed.0, filled_within n.segments)
 size_within Two n fit = omega (arith, fit.words.1, fit.zeroed.0, fit.segments, filled_within n.segments)
 
-within : (image : Parts) → IsImage image → length (image_spelling image) ≤ image_limit
-within image good =
+image_spelling-within_limit : (image : Parts) → IsImage image → length (image_spelling image) ≤ image_limit
+image_spelling-within_limit image good =
     omega (arith, length-image_spelling image good, size_within image.version (numbers image) good.fields)
 
 pub spelling-ImageOf : (image : Parts) (files : Files) (name : List ℕ) → IsImage image
     → HasFile files name (image_spelling image)
     → ImageOf files name (continues image)
-spelling-ImageOf image files name good there = (image_spelling image, (there, within image good), (good, refl))
+spelling-ImageOf image files name good there =
+    (image_spelling image, (there, image_spelling-within_limit image good), (good, refl))
 
 -- ---- it is checked, and choices have words
 

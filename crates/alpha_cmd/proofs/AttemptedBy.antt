@@ -19,7 +19,7 @@ use Rattle.alpha_cmd.specs.Form.{Form, Kind, Needs, needs_nothing, needs_files, 
 use Rattle.alpha_cmd.specs.Attempts.{CutBy, FaultedAttemptBy, AttemptBy}
 use Rattle.alpha_cmd.specs.Commands.{form_of, kind_of, there_of, AnswerOf, EndsBy}
 use Rattle.alpha_cmd.specs.Tried.{IsAnswer, AreTold, AttemptedBy}
-use Rattle.alpha_cmd.proofs.Forms.{IsPlain, is_fault, one_answer, some_answer, plain_answer, ended_ends}
+use Rattle.alpha_cmd.proofs.FormLaws.{IsPlain, is_fault, one_answer, some_answer, plain_answer, ended_ends}
 use Rattle.alpha_cmd.proofs.Commands.Imprecise.{found_end}
 use Rattle.alpha_cmd.proofs.AttemptsByForm.{SaysFaultLine, plain, cut, fails_calm, fails_says, says_not_sink}
 use Rattle.alpha_cmd.proofs.AttemptsByForm.{says_not_input}

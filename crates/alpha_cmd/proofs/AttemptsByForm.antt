@@ -11,7 +11,7 @@ use Rattle.alpha_cmd.specs.Answer.{Answer}
 use Rattle.alpha_cmd.specs.AnswerBy.{World, status_answer}
 use Rattle.alpha_cmd.specs.Form.{Form, Kind, MayTakeBy, SparesBy}
 use Rattle.alpha_cmd.specs.Attempts.{CutBy, IsCutBy, FaultedAttemptBy, AttemptBy}
-use Rattle.alpha_cmd.proofs.Forms.{IsPlain, is_fault}
+use Rattle.alpha_cmd.proofs.FormLaws.{IsPlain, is_fault}
 
 -- ---- a command that stops, or is cut short
 

@@ -4,7 +4,7 @@ use Rattle.std.proofs.Common.{ap, subst, inl, inr, ⊎_elim, arith}
 use Rattle.alpha_io.specs.declared.Failed.{Failed}
 use Rattle.alpha_io.specs.ShelfChange.{ShelfChange}
 use Rattle.alpha_io.specs.SinkChange.{SinkChange, sink_change_by, Puts, WritesPartly, HasFailed, HasNoFault}
-use Rattle.alpha_io.proofs.Counts.{Faulted-earlier}
+use Rattle.alpha_io.proofs.FaultCounts.{Faulted-earlier}
 use Rattle.alpha_io.proofs.Sinks.{Puts-none, Puts-then, WritesPartly-then, HasFailed-not_HasNoFault}
 use Rattle.alpha_cmd.specs.declared.decision.Decision.{Decision}
 use Rattle.alpha_cmd.specs.declared.status.Status.{Status}

@@ -5,7 +5,7 @@ use Rattle.alpha_io.specs.Faults.{Faulted}
 use Rattle.alpha_io.specs.Files.{Files}
 use Rattle.alpha_io.specs.ShelfChange.{ShelfChange}
 use Rattle.alpha_io.specs.SinkChange.{SinkChange, sink_change, Puts, WritesPartly, HasFailed}
-use Rattle.alpha_io.proofs.Counts.{Faulted-not_NoFault}
+use Rattle.alpha_io.proofs.FaultCounts.{Faulted-not_NoFault}
 use Rattle.alpha_shadow.specs.Broken.{IsAccepted}
 use Rattle.alpha_imprecise.specs.Restart.{IsRestartable}
 use Rattle.alpha_restart.proofs.Agreement.{accepted_restarts}
@@ -48,7 +48,7 @@ use Rattle.alpha_cmd.proofs.AcceptedFiles.{accepted-IsChecked as checked_file}
 use Rattle.alpha_cmd.proofs.CallEndings as endings
 use Rattle.alpha_cmd.proofs.CallEndings.{Leaves-not_sink, given_whole, given_as, calm_part}
 use Rattle.alpha_cmd.proofs.IsFixed.{tried_fixed}
-use Rattle.alpha_cmd.proofs.Forms.{is_fault}
+use Rattle.alpha_cmd.proofs.FormLaws.{is_fault}
 use Rattle.alpha_cmd.proofs.JournalStatus.{journal_status-no_end}
 use Rattle.alpha_cmd.proofs.KeptLinks.{kept_link}
 use Rattle.alpha_cmd.proofs.KeptModules.{kept_module}

@@ -2,7 +2,7 @@
 use Rattle.alpha_request.specs.Command.{Command, of_image, make, link, replay, record_run, run, imprecise, trial}
 use Rattle.alpha_cmd.specs.AnswerBy.{World}
 use Rattle.alpha_cmd.specs.Commands.{form_of, there_of}
-use Rattle.alpha_cmd.proofs.Forms.{IsLawfulForm}
+use Rattle.alpha_cmd.proofs.FormLaws.{IsLawfulForm}
 use Rattle.alpha_cmd.proofs.Commands.Imprecise as wilds
 use Rattle.alpha_cmd.proofs.Commands.Link as links
 use Rattle.alpha_cmd.proofs.Commands.Record as recordings

@@ -5,7 +5,7 @@ use Rattle.alpha_io.specs.SinkChange.{SinkChange}
 use Rattle.alpha_io.specs.declared.Failed.{Failed}
 use Rattle.alpha_io.specs.ShelfChange.{ShelfChange}
 use Rattle.alpha_io.specs.History.{Reply, IsReadWhole}
-use Rattle.alpha_io.proofs.Pieces.{one_file}
+use Rattle.alpha_io.proofs.FilePieces.{one_file}
 use Rattle.alpha_image.specs.Parts.{Parts, IsImage, image_spelling}
 use Rattle.alpha_image.specs.ImageFault.{first_fault}
 use Rattle.alpha_image.proofs.Spelled.{one_image, first_fault-image_spelling}

@@ -26,9 +26,9 @@ use Rattle.alpha_imprecise.specs.Oracle.{Oracle}
 use Rattle.alpha_imprecise.specs.Fronts.{IsFrontBy}
 use Rattle.alpha_imprecise.specs.ImpreciseState.{ImpreciseState, IsFresh, begun_at, step_result_of, trap_in, waited_in}
 use Rattle.alpha_imprecise.proofs.WordDraws.{words_drawn, draws_most}
-use Rattle.alpha_imprecise.proofs.Drawn.{chosen_run_with}
-use Rattle.alpha_imprecise.proofs.Exactly.{told_words, drawn_exactly}
-use Rattle.alpha_imprecise.proofs.Fresh.{step_result_of-IsFresh, begun_fresh, told_starts}
+use Rattle.alpha_imprecise.proofs.DrawnRuns.{chosen_run_with}
+use Rattle.alpha_imprecise.proofs.ExactDraws.{told_words, drawn_exactly}
+use Rattle.alpha_imprecise.proofs.FreshRuns.{step_result_of-IsFresh, begun_fresh, told_starts}
 use Rattle.alpha_imprecise.proofs.ShownRuns.{runs_alike}
 use Rattle.alpha_restart.proofs.Agreement.{accepted_restarts}
 use Rattle.alpha_run.specs.ImpreciseRan.{moment_at, ImprecisePrefixRun}

@@ -10,8 +10,8 @@ use Rattle.alpha_seq.specs.Start.{start}
 use Rattle.alpha_seq.specs.Run.{Run, begins, next, Runs, ReadNothing, end_of, is_over, after, Shown, shown}
 use Rattle.alpha_seq.specs.Fronts.{HasMade}
 use Rattle.alpha_seq.proofs.RunsOverInput.{after-over}
-use Rattle.alpha_seq.proofs.Sequence.{after-fed}
-use Rattle.alpha_seq.proofs.Unread.{ReadNothing-same_run, unread_after}
+use Rattle.alpha_seq.proofs.RunSequence.{after-fed}
+use Rattle.alpha_seq.proofs.RunsWithoutInput.{ReadNothing-same_run, unread_after}
 use Rattle.alpha_cmd.specs.Outcome.{Outcome, continues, stops}
 use Rattle.alpha_cmd.specs.Image.{ImageOf}
 use Rattle.alpha_cmd.specs.AlikeByAnswers.{undrawn, HasWords, IsChecked}
@@ -23,9 +23,9 @@ use Rattle.alpha_cmd.specs.Commands.Run.{shown_by, MayShow, Runs as RunsBy}
 use Rattle.alpha_cmd.specs.RunAnswer.{program_by, answer_shown}
 use Rattle.alpha_cmd.specs.ReadsNothing.{ReadsNothing, answer_unread}
 use Rattle.alpha_cmd.proofs.Lawful.{Then-found}
-use Rattle.alpha_cmd.proofs.Stages.{ImageOf-lawful}
+use Rattle.alpha_cmd.proofs.StageLaws.{ImageOf-lawful}
 use Rattle.alpha_cmd.proofs.Commands.Run.{some_shown, shown_answer}
-use Rattle.alpha_cmd.proofs.Alike.{run_answer, some_checked_run}
+use Rattle.alpha_cmd.proofs.ImpreciseAnswers.{run_answer, some_checked_run}
 
 -- ---- runs that have made their steps
 

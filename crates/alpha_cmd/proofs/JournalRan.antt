@@ -25,9 +25,9 @@ use Rattle.alpha_imprecise.specs.ChosenRun.{end_of_imprecise_event, lost_trap}
 use Rattle.alpha_imprecise.specs.Restart.{IsRestartable}
 use Rattle.alpha_imprecise.specs.Oracle.{Oracle}
 use Rattle.alpha_imprecise.specs.ImpreciseState.{ImpreciseState, IsFresh, step_result_of, waited_in}
-use Rattle.alpha_imprecise.proofs.Exactly.{told_words}
-use Rattle.alpha_imprecise.proofs.Fresh.{told_starts}
-use Rattle.alpha_imprecise.proofs.Sequence.{RunsImprecisely-append, units_of_steps-append}
+use Rattle.alpha_imprecise.proofs.ExactDraws.{told_words}
+use Rattle.alpha_imprecise.proofs.FreshRuns.{told_starts}
+use Rattle.alpha_imprecise.proofs.ImpreciseSequence.{RunsImprecisely-append, units_of_steps-append}
 use Rattle.alpha_run.specs.ImpreciseRan.{moment_at}
 use Rattle.alpha_run.proofs.ImpreciseShown.{drawn_from_none, few_cut, prefix-RunsImprecisely, prefix-Draws}
 use Rattle.alpha_run.proofs.ImpreciseShown.{prefix-WritesPrefix, Draws-append}

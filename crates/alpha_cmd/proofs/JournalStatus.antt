@@ -28,7 +28,7 @@ use Rattle.alpha_cmd.specs.Commands.Record.{unwatched, IsEndStatus, kind, there,
 use Rattle.alpha_cmd.specs.Commands.Record.{untaken, lost, spent}
 use Rattle.alpha_cmd.proofs.Commands.Imprecise.{MayShowImprecise-MayLose, imprecise-plain}
 use Rattle.alpha_cmd.proofs.Commands.Record.{record_form-lawful}
-use Rattle.alpha_cmd.proofs.Forms.{is_fault}
+use Rattle.alpha_cmd.proofs.FormLaws.{is_fault}
 use Rattle.alpha_cmd.proofs.Lawful.{IsRefusal}
 
 -- ---- no other status is that of a run's end

@@ -4,7 +4,7 @@ use Rattle.alpha_io.specs.declared.shelf.Shelf.{Ghosts}
 use Rattle.alpha_io.specs.Faults.{Faulted}
 use Rattle.alpha_io.specs.Files.{Files, Refuses, KeepsFiles}
 use Rattle.alpha_io.specs.ShelfChange.{shelf_change, OnlyReads}
-use Rattle.alpha_io.proofs.Counts.{Faulted-earlier}
+use Rattle.alpha_io.proofs.FaultCounts.{Faulted-earlier}
 use Rattle.alpha_io.proofs.ShelfLaws.{KeepsFiles-trans, KeepsOtherFiles-after_kept}
 use Rattle.alpha_seq.specs.Devices.{Drawn}
 use Rattle.alpha_cmd.specs.declared.status.Status.{Status}
@@ -18,7 +18,7 @@ use Rattle.alpha_cmd.specs.Ends.{FinalOutcome}
 use Rattle.alpha_cmd.specs.Form.{Kind, SparesBy, making_form}
 use Rattle.alpha_cmd.specs.Keeping.{KeepsAs, AttemptsKeep, Untaken}
 use Rattle.alpha_cmd.specs.Attempts.{IsCutBy, AttemptBy}
-use Rattle.alpha_cmd.proofs.Stages.{kept_same}
+use Rattle.alpha_cmd.proofs.StageLaws.{kept_same}
 
 -- ---- files that were read before
 

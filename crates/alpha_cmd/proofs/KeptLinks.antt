@@ -19,11 +19,11 @@ use Rattle.alpha_cmd.specs.Commands.Link.{form, there, Spell, HasAccepted, Keeps
 use Rattle.alpha_cmd.specs.Kept.{Kept, HasKept}
 use Rattle.alpha_cmd.specs.Status.{class_of}
 use Rattle.alpha_cmd.specs.Tried.{AttemptedBy}
-use Rattle.alpha_cmd.proofs.Forms.{done_goes}
+use Rattle.alpha_cmd.proofs.FormLaws.{done_goes}
 use Rattle.alpha_cmd.proofs.Commands.Link.{link_form-lawful, files_read, modules_spelled, all_modules}
 use Rattle.alpha_cmd.proofs.Commands.Link.{NamesModule-Spell}
 use Rattle.alpha_cmd.proofs.ModuleWords.{spelled_words}
-use Rattle.alpha_cmd.proofs.Stages.{is_file-injective}
+use Rattle.alpha_cmd.proofs.StageLaws.{is_file-injective}
 use Rattle.alpha_cmd.proofs.AttemptedBy.{done_tried}
 
 abbrev IsSafe : ModuleParts → Type 0

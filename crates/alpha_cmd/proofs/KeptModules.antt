@@ -13,7 +13,7 @@ use Rattle.alpha_cmd.specs.SourceCommands.{form, there}
 use Rattle.alpha_cmd.specs.Kept.{Kept, HasKept}
 use Rattle.alpha_cmd.specs.Status.{class_of}
 use Rattle.alpha_cmd.specs.Tried.{AttemptedBy}
-use Rattle.alpha_cmd.proofs.Forms.{done_goes}
+use Rattle.alpha_cmd.proofs.FormLaws.{done_goes}
 use Rattle.alpha_cmd.proofs.SourceCommands.{source_form-lawful}
 use Rattle.alpha_cmd.proofs.AttemptedBy.{done_tried}
 

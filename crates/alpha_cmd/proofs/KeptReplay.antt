@@ -29,7 +29,7 @@ use Rattle.alpha_cmd.specs.Commands.Replay as replays
 use Rattle.alpha_cmd.specs.RunAnswer.{program_by}
 use Rattle.alpha_cmd.proofs.Commands.Imprecise.{planned_image}
 use Rattle.alpha_cmd.proofs.Commands.Replay.{replay_form-lawful}
-use Rattle.alpha_cmd.proofs.Forms.{one_answer}
+use Rattle.alpha_cmd.proofs.FormLaws.{one_answer}
 
 -- ---- a good journal is short enough for a file of a call
 

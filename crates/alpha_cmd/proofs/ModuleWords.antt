@@ -26,20 +26,20 @@ use Rattle.alpha_image.specs.FirstOf.{unless as field_unless, first_of}
 use Rattle.alpha_image.proofs.CodeInsns.{code_words_of_insns}
 use Rattle.alpha_image.proofs.CodeWords.{words_of-flat_map, length-flat_map_longword}
 use Rattle.alpha_image.proofs.FieldRules.{option_or-both_none}
-use Rattle.alpha_image.proofs.Numbers.{longword_at-front}
+use Rattle.alpha_image.proofs.LittleEndianNumbers.{longword_at-front}
 use Rattle.alpha_asm.specs.declared.fault.AsmFault.{AsmFault}
 use Rattle.alpha_asm.specs.declared.fault.AsmFault.TheVariants.{ImageField, LongLine}
 use Rattle.alpha_asm.specs.declared.kind.SourceKind.TheVariants as source_kinds
 use Rattle.alpha_asm.specs.Assembled.{item_at, refused, refused_read, first_refused, unless}
 use Rattle.alpha_asm.specs.Layout.{Place, placed, layout, place_after, start}
 use Rattle.alpha_asm.specs.Patches.{raw_insns}
-use Rattle.alpha_round.proofs.Insns.{SaysInsn, read-insn}
+use Rattle.alpha_round.proofs.LineInsns.{SaysInsn, read-insn}
 use Rattle.alpha_link.specs.Header.{header_bytes}
 use Rattle.alpha_link.specs.Symbols.{symbol_bytes}
 use Rattle.alpha_link.specs.Relocations.{relocation_bytes}
 use Rattle.alpha_link.specs.Parts.{ModuleParts, IsModule, sizes_of}
 use Rattle.alpha_link.specs.Spelled.{spelling}
-use Rattle.alpha_link.specs.Made.{bad_field, made_module, module_of, sized}
+use Rattle.alpha_link.specs.Made.{bad_field, made_module, module_of, module_within_limits}
 use Rattle.alpha_cmd.specs.Commands.Link.{IsMade}
 
 -- few words enough for the module's header, each of which is one of the code
@@ -159,7 +159,8 @@ made_words : (source : List ℕ) (m : ModuleParts) → made_module source ≡ Ok
 unfolding made_module
 made_words source m h =
     let is = map item_at (lines source) in
-    let (taken, done) = unless_ok (first_refused source_kinds.Module [] (lines source)) (sized (module_of is)) m h in
+    let (taken, done) =
+    unless_ok (first_refused source_kinds.Module [] (lines source)) (module_within_limits (module_of is)) m h in
     let made = module_of is in
     let (fine, same) = unless_ok (option_map ImageField (bad_field (length made.words) (length made.bytes) made.zeroed))
     (made_ok made) m done in

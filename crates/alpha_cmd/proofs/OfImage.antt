@@ -9,7 +9,7 @@ use Rattle.alpha_cmd.specs.AnswerBy.{World}
 use Rattle.alpha_cmd.specs.Checked.{ReadsImage}
 use Rattle.alpha_cmd.specs.OfImage.{form, there}
 use Rattle.alpha_cmd.specs.Replied.{Replied}
-use Rattle.alpha_cmd.proofs.Forms.{IsLawfulForm}
+use Rattle.alpha_cmd.proofs.FormLaws.{IsLawfulForm}
 use Rattle.alpha_cmd.proofs.OfImage.Check as checks
 use Rattle.alpha_cmd.proofs.OfImage.Debug as sessions
 use Rattle.alpha_cmd.proofs.OfImage.Dis as listings

@@ -18,17 +18,17 @@ Each-lawful {Y = Y} R before (x ∷ xs) all =
     (λ y found. Each-lawful R (before ++ y ∷ []) xs all.1)
 
 -- the elements of two lists stand in a relation, one by one
-abbrev pub Zip : {X Y : Type 0} → (X → Y → Type 0) → List X → List Y → Type 0
-Zip P [] [] = Unit {0}
-Zip P [] (y ∷ ys) = ⊥
-Zip P (x ∷ xs) [] = ⊥
-Zip P (x ∷ xs) (y ∷ ys) = P x y × Zip P xs ys
+abbrev pub AreRelatedEach : {X Y : Type 0} → (X → Y → Type 0) → List X → List Y → Type 0
+AreRelatedEach P [] [] = Unit {0}
+AreRelatedEach P [] (y ∷ ys) = ⊥
+AreRelatedEach P (x ∷ xs) [] = ⊥
+AreRelatedEach P (x ∷ xs) (y ∷ ys) = P x y × AreRelatedEach P xs ys
 
 -- what the stages find, each by its own
 each_found : {X Y : Type 0} (R : List Y → X → Outcome Y → Type 0) (P : X → Y → Type 0)
     → ((before : List Y) (x : X) (y : Y) → R before x (continues y) → P x y)
     → (before : List Y) (xs : List X) (out : List Y) → Each R before xs (continues out)
-    → (ys : List Y) × (out ≡ before ++ ys) × Zip P xs ys
+    → (ys : List Y) × (out ≡ before ++ ys) × AreRelatedEach P xs ys
 each_found R P finds before [] out h = ([], h ∙ sym (append-nil before), tt)
 each_found R P finds before (x ∷ xs) out (y, found, rest) =
     let (ys, is, all) = each_found R P finds (before ++ y ∷ []) xs out rest in
@@ -36,8 +36,10 @@ each_found R P finds before (x ∷ xs) out (y, found, rest) =
 
 pub Each-zip : {X Y : Type 0} (R : List Y → X → Outcome Y → Type 0) (P : X → Y → Type 0)
     → ((before : List Y) (x : X) (y : Y) → R before x (continues y) → P x y)
-    → (xs : List X) (out : List Y) → Each R [] xs (continues out) → Zip P xs out
-Each-zip R P finds xs out h = let (ys, is, all) = each_found R P finds [] xs out h in subst (Zip P xs) (sym is) all
+    → (xs : List X) (out : List Y) → Each R [] xs (continues out) → AreRelatedEach P xs out
+Each-zip R P finds xs out h =
+    let (ys, is, all) = each_found R P finds [] xs out h in
+    subst (AreRelatedEach P xs) (sym is) all
 
 -- a loop that goes on: what holds of the rest of the list, behind what was found, holds of all of it
 pub Each-next : {X Y : Type 0} (R : List Y → X → Outcome Y → Type 0)

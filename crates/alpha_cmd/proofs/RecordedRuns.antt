@@ -15,7 +15,7 @@ use Rattle.alpha_imprecise.specs.Used.{HasUsed}
 use Rattle.alpha_imprecise.specs.ChosenRun.{ChosenRun, begun, chosen_run, first_words, most_words}
 use Rattle.alpha_imprecise.specs.ChosenRun.{end_of_imprecise_event, lost_trap, ShownImprecise, shown_chosen_run}
 use Rattle.alpha_imprecise.specs.ChosenRun.{imprecise_by}
-use Rattle.alpha_imprecise.proofs.Drawn.{chosen_run-IsMade}
+use Rattle.alpha_imprecise.proofs.DrawnRuns.{chosen_run-IsMade}
 use Rattle.alpha_imprecise.proofs.PendingTraps.{made_is}
 use Rattle.alpha_imprecise.proofs.ShownRuns.{runs_alike}
 use Rattle.alpha_replay.specs.GatheredItems.{items_of}

@@ -12,7 +12,7 @@ use Rattle.alpha_cmd.specs.AnswerBy.{World}
 use Rattle.alpha_cmd.specs.Commands.Replay.{form, there}
 use Rattle.alpha_cmd.specs.Replayed.{ShowsRun}
 use Rattle.alpha_cmd.specs.Tried.{AttemptedBy}
-use Rattle.alpha_cmd.proofs.Forms.{done_goes}
+use Rattle.alpha_cmd.proofs.FormLaws.{done_goes}
 use Rattle.alpha_cmd.proofs.Commands.Replay.{replay_form-lawful}
 use Rattle.alpha_cmd.proofs.AttemptedBy.{done_tried}
 

@@ -56,10 +56,10 @@ use Rattle.alpha_cmd.specs.RunsAsked.{HasEnded, ShowsOf, ShowsPlan, ShowsAsked, 
 use Rattle.alpha_cmd.specs.RunsAsked.{DecidesOf, DecidesAsked, WhereEnded}
 use Rattle.alpha_cmd.specs.ShowsDone.{ShowsDone, DecidesDone}
 use Rattle.alpha_cmd.proofs.Commands.Imprecise.{planned_image}
-use Rattle.alpha_cmd.proofs.Ended.{drawn_end, run_end_class, sink_unended}
+use Rattle.alpha_cmd.proofs.EndStatuses.{drawn_end, run_end_class, sink_unended}
 use Rattle.alpha_cmd.proofs.EndsWhere.{seeded_read}
-use Rattle.alpha_cmd.proofs.Ran.{IsStarted, says_end}
-use Rattle.alpha_cmd.proofs.Stages.{IfOk-more}
+use Rattle.alpha_cmd.proofs.RunEffects.{IsStarted, says_end}
+use Rattle.alpha_cmd.proofs.StageLaws.{IfOk-more}
 
 -- ---- of a file
 

@@ -11,9 +11,9 @@ use Rattle.alpha_cmd.specs.SourceCommands.{source_limit, Bytes, MakesOfSource, f
 use Rattle.alpha_cmd.proofs.SourceCommands.Asm.{Assembles-lawful}
 use Rattle.alpha_cmd.proofs.SourceCommands.Fix.{Fixes-lawful}
 use Rattle.alpha_cmd.proofs.SourceCommands.Module.{Modules-lawful}
-use Rattle.alpha_cmd.proofs.Forms.{IsLawfulForm, making_lawful}
+use Rattle.alpha_cmd.proofs.FormLaws.{IsLawfulForm, making_lawful}
 use Rattle.alpha_cmd.proofs.Lawful.{Lawful, IsRefusal, Then-lawful}
-use Rattle.alpha_cmd.proofs.Stages.{Reads-lawful}
+use Rattle.alpha_cmd.proofs.StageLaws.{Reads-lawful}
 pub mod Asm
 pub mod Fix
 pub mod Module

@@ -32,7 +32,7 @@ use Rattle.alpha_cmd.specs.ToldRun.{answer_told}
 use Rattle.alpha_cmd.proofs.Commands.Run.{shown_answer}
 use Rattle.alpha_cmd.proofs.AttemptedBy.{AnswerOf-single, asked_answer}
 use Rattle.alpha_cmd.proofs.AcceptedFiles.{spelling-ImageOf, accepted-IsChecked}
-use Rattle.alpha_cmd.proofs.Alike.{checked_good, answers-equal}
+use Rattle.alpha_cmd.proofs.ImpreciseAnswers.{checked_good, answers-equal}
 
 -- ---- choices have words
 

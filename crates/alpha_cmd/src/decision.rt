@@ -43,7 +43,7 @@ impl Decision {
     }
 
     /// An accepted image.
-    pub(crate) fn accepted() -> Decision
+    pub(crate) fn of_accepted_image() -> Decision
         ensures { (left : Option (List ℕ)) → answer_in left result ≡ accepted left }
     {
         Decision {
@@ -54,7 +54,7 @@ impl Decision {
     }
 
     /// A journal that lists a run.
-    pub(crate) fn replayed(run: &Replayed) -> Decision
+    pub(crate) fn of_replay(run: &Replayed) -> Decision
         ensures { (left : Option (List ℕ)) → answer_in left result ≡ shown left run.now }
     {
         let output = run_line(run);
@@ -66,7 +66,7 @@ impl Decision {
     }
 
     /// What a stage stopped by.
-    pub(crate) fn stopped(stop: Stop) -> Decision
+    pub(crate) fn of_stop(stop: Stop) -> Decision
         ensures { SaysStop stop result }
     {
         Decision {
@@ -94,26 +94,26 @@ impl Decision {
             ≡ status_answer left (answer_status (Some event.now) drawn) (answer_line (Some event.now)) }
     {
         match *event {
-            Event::Ended(end) => Decision::ended(&end, drawn),
+            Event::Ended(end) => Decision::of_end(&end, drawn),
             Event::Lost(trap_pc, mask) => Decision::of_status(Status::Lost(Lost { trap_pc, mask })),
             _ => Decision::of_status(Status::StepsSpent),
         }
     }
 
     // An end of a program that was run by so many words.
-    fn ended(end: &End, drawn: u64) -> Decision
+    fn of_end(end: &End, drawn: u64) -> Decision
         ensures { (left : Option (List ℕ)) → answer_in left result
             ≡ status_answer left (drawn_status drawn end.now) (end_line end.now) }
     {
         Decision {
-            status: drawn_status_of(end, drawn),
+            status: end_status(end, drawn),
             output: Line::new(),
             line: line_of_end(end),
         }
     }
 
     /// What is decided of a run that a device's fault cut short.
-    pub(crate) fn cut_short(fault: Fault) -> Result<Decision, Failed>
+    pub(crate) fn of_device_fault(fault: Fault) -> Result<Decision, Failed>
         ensures { IsCutShort fault result }
     {
         match fault {
@@ -136,8 +136,8 @@ impl Decision {
             → HasFailed (sink_change K.Sink out.old out.new)
             ⊎ HasFailed (sink_change N.Sink notes.old notes.new) }
     {
-        match put(out, &self.output) {
-            Ok(()) => match put(notes, &self.line) {
+        match write_line(out, &self.output) {
+            Ok(()) => match write_line(notes, &self.line) {
                 Ok(()) => self.status,
                 Err(_) => Status::SinkFault,
             },
@@ -147,7 +147,7 @@ impl Decision {
 }
 
 // The status of an end, by the number of words that were drawn.
-fn drawn_status_of(end: &End, drawn: u64) -> Status
+fn end_status(end: &End, drawn: u64) -> Status
     ensures { result ≡ drawn_status drawn end.now }
 {
     match *end {
@@ -157,7 +157,7 @@ fn drawn_status_of(end: &End, drawn: u64) -> Status
 }
 
 // Writes a line.
-fn put<K: Sink>(sink: &mut K, line: &Line) -> Result<(), Failed>
+fn write_line<K: Sink>(sink: &mut K, line: &Line) -> Result<(), Failed>
     ensures ok { OnOk result (Puts (sink_change K.Sink sink.old sink.new) line.now) }
     ensures part { WritesPartly (sink_change K.Sink sink.old sink.new) line.now }
     ensures failed { OnErr result (HasFailed (sink_change K.Sink sink.old sink.new)) }

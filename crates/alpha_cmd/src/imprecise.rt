@@ -85,8 +85,8 @@ pub(crate) fn imprecise<H: Shelf, S: Source, K: Sink, N: Sink>(
         (shelf_change H.Shelf devices.old.shelf devices.new.shelf) }
 {
     match prepare(alloc, &asked, &mut devices.shelf) {
-        Ok(mut begun) => run_begun(&mut begun, asked.options, devices),
-        Err(stop) => Ok(Decision::stopped(stop)),
+        Ok(mut begun) => run_from_start(&mut begun, asked.options, devices),
+        Err(stop) => Ok(Decision::of_stop(stop)),
     }
 }
 
@@ -164,7 +164,7 @@ fn begin(alloc: Global, plan: Plan, options: RunOptions) -> Result<Begun, Stop>
 }
 
 // Runs a machine from the start.
-fn run_begun<H: Shelf, S: Source, K: Sink, N: Sink>(
+fn run_from_start<H: Shelf, S: Source, K: Sink, N: Sink>(
     begun: &mut Begun,
     options: RunOptions,
     devices: &mut Devices<H, S, K, N>,
@@ -192,6 +192,6 @@ fn run_begun<H: Shelf, S: Source, K: Sink, N: Sink>(
         options.watch,
     ) {
         Ok(last) => Ok(Decision::after_run(last, begun.chooser.drawn())),
-        Err(fault) => Decision::cut_short(fault),
+        Err(fault) => Decision::of_device_fault(fault),
     }
 }

@@ -45,7 +45,7 @@ pub(crate) fn link<H: Shelf, S: Source, K: Sink, N: Sink>(
 {
     match read_and_link(alloc, entry, files, &mut devices.shelf) {
         Ok(bytes) => Ok(keep_as(bytes.as_slice(), out, &mut devices.shelf)),
-        Err(stop) => Ok(Decision::stopped(stop)),
+        Err(stop) => Ok(Decision::of_stop(stop)),
     }
 }
 
@@ -93,12 +93,12 @@ fn link_files(alloc: Global, entry: &str, files: Vec<Vec<u8>>) -> Result<Vec<u8>
     ensures { Computes (Then (ModulesOf (map (λ file. file.items) files.items)) (Links entry.now))
         (λ bytes. bytes.items) result }
 {
-    let image = linked_image(alloc, entry, files)?;
+    let image = link_image(alloc, entry, files)?;
     bytes_of_image(alloc, &image)
 }
 
 // The image that the modules of files link to.
-fn linked_image(alloc: Global, entry: &str, files: Vec<Vec<u8>>) -> Result<Image, Stop>
+fn link_image(alloc: Global, entry: &str, files: Vec<Vec<u8>>) -> Result<Image, Stop>
     requires { length files.items ≤ 64 }
     ensures { Computes (Then (ModulesOf (map (λ file. file.items) files.items)) (Links entry.now))
         (λ image. images.image_spelling image) result }

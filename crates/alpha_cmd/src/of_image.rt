@@ -51,7 +51,7 @@ pub(crate) fn of_image<H: Shelf, S: Source, K: Sink, N: Sink>(
 {
     match load(alloc, &mut devices.shelf, file) {
         Ok(image) => on_image(alloc, command, image, devices),
-        Err(stop) => Ok(Decision::stopped(stop)),
+        Err(stop) => Ok(Decision::of_stop(stop)),
     }
 }
 

@@ -66,14 +66,14 @@ pub(crate) fn record<H: Shelf, S: Source, K: Sink, N: Sink>(
         (H.files devices.new.shelf) }
 {
     match prepare(alloc, &asked, &mut devices.shelf) {
-        Ok(mut begun) => record_begun(alloc, &mut begun, asked.options, name, devices),
-        Err(stop) => Ok(Decision::stopped(stop)),
+        Ok(mut begun) => record_from_start(alloc, &mut begun, asked.options, name, devices),
+        Err(stop) => Ok(Decision::of_stop(stop)),
     }
 }
 
 // Runs a machine from the start, and keeps the journal of the run. The keep comes behind the run: before it
 // no file is changed. What the run puts and notes is written while it is made.
-fn record_begun<H: Shelf, S: Source, K: Sink, N: Sink>(
+fn record_from_start<H: Shelf, S: Source, K: Sink, N: Sink>(
     alloc: Global,
     begun: &mut Begun,
     options: RunOptions,
@@ -97,7 +97,7 @@ fn record_begun<H: Shelf, S: Source, K: Sink, N: Sink>(
         → (p : Parts) × IsJournal p × HasJournal options (S.left devices.old.input) (plan_in begun.old) p
         × HasFile (H.files devices.new.shelf) name.now (spelling p) }
 {
-    match run_begun(alloc, begun, options, devices) {
+    match run_with_journal(alloc, begun, options, devices) {
         Recorded::Made(decision, journal) => {
             Ok(keep_journal(alloc, &journal, name, decision, &mut devices.shelf))
         }
@@ -135,7 +135,7 @@ fn keep_journal<H: Shelf>(
 
 // Runs a machine from the start, with its journal.
 #[inline(never)]
-fn run_begun<H: Shelf, S: Source, K: Sink, N: Sink>(
+fn run_with_journal<H: Shelf, S: Source, K: Sink, N: Sink>(
     alloc: Global,
     begun: &mut Begun,
     options: RunOptions,
@@ -175,7 +175,7 @@ fn run_begun<H: Shelf, S: Source, K: Sink, N: Sink>(
         JournalEnd::Made(last, journal) => {
             Recorded::Made(Decision::after_run(last, begun.chooser.drawn()), journal)
         }
-        JournalEnd::Failed(fault) => Recorded::Over(Decision::cut_short(fault)),
+        JournalEnd::Failed(fault) => Recorded::Over(Decision::of_device_fault(fault)),
         JournalEnd::Full => Recorded::Over(Ok(Decision::of_status(Status::JournalFull))),
         JournalEnd::NoMemory => Recorded::Over(Ok(Decision::of_status(Status::NoMemory))),
     }

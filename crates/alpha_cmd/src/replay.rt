@@ -45,8 +45,8 @@ pub(crate) fn replay<H: Shelf, S: Source, K: Sink, N: Sink>(
         devices.old devices.new }
 {
     match run_of(alloc, file, journal, &mut devices.shelf) {
-        Ok(replayed) => Ok(Decision::replayed(&replayed)),
-        Err(stop) => Ok(Decision::stopped(stop)),
+        Ok(replayed) => Ok(Decision::of_replay(&replayed)),
+        Err(stop) => Ok(Decision::of_stop(stop)),
     }
 }
 

@@ -45,7 +45,7 @@ pub(crate) fn run<H: Shelf, S: Source, K: Sink, N: Sink>(
 {
     match load(alloc, &mut devices.shelf, file) {
         Ok(image) => run_image(alloc, options, image, devices),
-        Err(stop) => Ok(Decision::stopped(stop)),
+        Err(stop) => Ok(Decision::of_stop(stop)),
     }
 }
 
@@ -96,6 +96,6 @@ fn run_machine<H: Shelf, S: Source, K: Sink, N: Sink>(
         options.watch,
     ) {
         Ok(last) => Ok(Decision::after_run(last, 0)),
-        Err(fault) => Decision::cut_short(fault),
+        Err(fault) => Decision::of_device_fault(fault),
     }
 }

@@ -46,7 +46,7 @@ pub(crate) fn make<H: Shelf, S: Source, K: Sink, N: Sink>(
 {
     match bytes_of_source(alloc, command, file, &mut devices.shelf) {
         Ok(bytes) => Ok(keep_as(bytes.as_slice(), out, &mut devices.shelf)),
-        Err(stop) => Ok(Decision::stopped(stop)),
+        Err(stop) => Ok(Decision::of_stop(stop)),
     }
 }
 

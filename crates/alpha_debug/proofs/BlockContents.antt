@@ -9,7 +9,7 @@ use Rattle.alpha_io.specs.declared.sink.Sink.{Ghosts}
 use Rattle.alpha_io.specs.Faults.{HasCause}
 use Rattle.alpha_io.specs.Written.{WritesPrefix}
 use Rattle.alpha_io.specs.SinkChange.{sink_change, Puts, WritesPartly}
-use Rattle.alpha_io.proofs.Counts.{Faulted-earlier}
+use Rattle.alpha_io.proofs.FaultCounts.{Faulted-earlier}
 use Rattle.alpha_io.proofs.Sinks.{Puts-then, WritesPartly-more, WritesPartly-then}
 use Rattle.alpha_debug.specs.declared.block.TheConstants.{BLOCK_ROOM}
 use Rattle.alpha_debug.specs.OutputChange.{output_change, if_fits, put_for, waits_for, AppendsOutput, CutShort}

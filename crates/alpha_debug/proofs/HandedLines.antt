@@ -20,7 +20,7 @@ use Rattle.alpha_debug.specs.OutputChange.{output_change, output_change_by, Sink
 use Rattle.alpha_debug.specs.Handed.{HandsLine, IsHandedOver, text_behind, Stops, HandsEach}
 use Rattle.alpha_debug.specs.Effects.{Grows, session_of, setting_of, left_by, with_block, HandsSteps, Answers}
 use Rattle.alpha_debug.specs.Effects.{AnswerFails, IsPendingLine, hands_from, hands_after, Carries, CarryFails}
-use Rattle.alpha_debug.proofs.Sinks.{Grows-same, AppendsOutput-both, SinkFailsWith-more, SinkFailsWith-after}
+use Rattle.alpha_debug.proofs.SinkEffects.{Grows-same, AppendsOutput-both, SinkFailsWith-more, SinkFailsWith-after}
 use Rattle.alpha_debug.proofs.BlockContents.{AppendsOutput-flushed}
 use Rattle.alpha_debug.proofs.Sessions.{answer-grows}
 use Rattle.alpha_debug.proofs.ScriptLines.{LineHasNoFeed, within-other, within-feed}

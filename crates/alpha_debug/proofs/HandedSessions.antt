@@ -23,7 +23,7 @@ use Rattle.alpha_debug.specs.OutputChange.{OutputChange, output_change, CutShort
 use Rattle.alpha_debug.specs.Handed.{HandsLine, Stops, HandsEach, lines_come, Hands}
 use Rattle.alpha_debug.specs.Effects.{session_of, setting_of, left_by, IsOpened, Answers, AnswerFails, IsPendingLine}
 use Rattle.alpha_debug.specs.Effects.{CloseEffect, hands_from, Carries, CarryFails, HandsLast, HandsAll}
-use Rattle.alpha_debug.proofs.Sinks.{Puts-output_change}
+use Rattle.alpha_debug.proofs.SinkEffects.{Puts-output_change}
 use Rattle.alpha_debug.proofs.ScriptLines.{some-bytes, within-end, within-over, within-taken, held-last}
 use Rattle.alpha_debug.proofs.HandedLines.{line-carries}
 

@@ -1,13 +1,13 @@
 mod BlockContents
-mod Words
+mod LineWords
 mod RowTexts
-mod Sinks
+mod SinkEffects
 mod WatchedSteps
-mod Steps
+mod DebuggerSteps
 mod Sessions
 mod ScriptLines
 mod Scripts
-mod Pieces
+mod ScriptPieces
 mod ScriptUnderway
 mod SessionStart
 mod HandedLines

@@ -15,7 +15,7 @@ use Rattle.alpha_debug.specs.Command.{command_of, command_in, words}
 use Rattle.alpha_debug.specs.Session.{Setting, Session, text_of, answer}
 use Rattle.alpha_debug.specs.Script.{parts, ended_parts, all_lines, lines_within, answers, closed}
 use Rattle.alpha_debug.specs.Effects.{Grows, session_of, setting_of, told_from}
-use Rattle.alpha_debug.proofs.Sinks.{Grows-same, Grows-trans}
+use Rattle.alpha_debug.proofs.SinkEffects.{Grows-same, Grows-trans}
 use Rattle.alpha_debug.proofs.Sessions.{answer-grows}
 
 -- ---- tests of numbers
@@ -50,10 +50,10 @@ le-above a b l = grind (arith, nat_tests)
 abbrev pub LineHasNoFeed : List ℕ → Type 0
 LineHasNoFeed line = All (λ b. (b == 10) ≡ false) line
 
-lines-cons : (x : List ℕ) (ps : List (List ℕ)) → 0 < length ps
+lines_of_parts-cons : (x : List ℕ) (ps : List (List ℕ)) → 0 < length ps
     → lines_of_parts (x ∷ ps) ≡ strip_carriage_return x ∷ lines_of_parts ps
-lines-cons x [] l = absurd (omega arith)
-lines-cons x (y ∷ more) l = refl
+lines_of_parts-cons x [] l = absurd (omega arith)
+lines_of_parts-cons x (y ∷ more) l = refl
 
 ended-cons : (x : List ℕ) (ps : List (List ℕ)) → 0 < length ps
     → ended_parts (x ∷ ps) ≡ strip_carriage_return x ∷ ended_parts ps
@@ -68,7 +68,7 @@ parts-feed begun s line = slice_split_at (λ b. b == 10) begun 10 s line refl
 
 all-feed : (begun s : List ℕ) → LineHasNoFeed begun
     → all_lines (begun ++ 10 ∷ s) ≡ strip_carriage_return begun ∷ all_lines s
-all-feed begun s line = ap lines_of_parts (parts-feed begun s line) ∙ lines-cons begun (parts s) (some-parts s)
+all-feed begun s line = ap lines_of_parts (parts-feed begun s line) ∙ lines_of_parts-cons begun (parts s) (some-parts s)
 
 ended-feed : (begun s : List ℕ) → LineHasNoFeed begun
     → ended_parts (parts (begun ++ 10 ∷ s)) ≡ strip_carriage_return begun ∷ ended_parts (parts s)

@@ -8,7 +8,7 @@ use Rattle.alpha_io.specs.Faults.{Faulted}
 use Rattle.alpha_io.specs.History.{Took}
 use Rattle.alpha_io.specs.Supply.{Supply}
 use Rattle.alpha_io.proofs.Takes.{HasGiven-then, HasGiven-one, HasGiven-failed}
-use Rattle.alpha_io.proofs.Counts.{Faulted-earlier}
+use Rattle.alpha_io.proofs.FaultCounts.{Faulted-earlier}
 use Rattle.alpha_pal.specs.CallEffect.{Takes}
 use Rattle.alpha_seq.specs.Devices.{Drawn, drawn_by}
 use Rattle.alpha_debug.specs.declared.command.Command.{Command}
@@ -26,7 +26,7 @@ use Rattle.alpha_debug.specs.Effects.{IsPendingLine}
 use Rattle.alpha_debug.specs.Effects.{told_from, FeedsBytes, FeedFails, Closes, CloseFails, CloseEffect, Gets, Reads}
 use Rattle.alpha_debug.specs.Effects.{Tells}
 use Rattle.alpha_debug.specs.Effects.{ReadingFails, SessionSinkFails, TellEffect}
-use Rattle.alpha_debug.proofs.Sinks.{FailsBehind-after, AppendsOutput-both}
+use Rattle.alpha_debug.proofs.SinkEffects.{FailsBehind-after, AppendsOutput-both}
 use Rattle.alpha_debug.proofs.ScriptLines.{told-end, told-large, told-grows, held-last}
 
 -- ---- the end of a script

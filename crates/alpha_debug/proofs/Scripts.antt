@@ -16,7 +16,7 @@ use Rattle.alpha_debug.specs.Script.{Transcript, lines_within, answers, closed}
 use Rattle.alpha_debug.specs.OutputChange.{OutputChange, output_change_by, AppendsOutput}
 use Rattle.alpha_debug.specs.Effects.{FailsBehind, session_of, setting_of, left_by, Answers, AnswerFails, IsPendingLine}
 use Rattle.alpha_debug.specs.Effects.{told_from, told_after, FeedsBytes, FeedFails}
-use Rattle.alpha_debug.proofs.Sinks.{FailsBehind-more, FailsBehind-after, AppendsOutput-both}
+use Rattle.alpha_debug.proofs.SinkEffects.{FailsBehind-more, FailsBehind-after, AppendsOutput-both}
 use Rattle.alpha_debug.proofs.ScriptLines.{LineHasNoFeed, told-other, told-feed, told-over, held-line, answers-grows}
 
 -- ---- no bytes

@@ -12,7 +12,7 @@ use Rattle.alpha_debug.specs.Script.{Transcript, transcript, transcript_from, sc
 use Rattle.alpha_debug.specs.Effects.{setting_of, IsOpened, told_from, Reads, Tells, ReadingFails, SessionSinkFails}
 use Rattle.alpha_debug.specs.Effects.{TellEffect}
 use Rattle.alpha_debug.specs.DebugEffect.{Follows, IsWhole, IsUnread, IsUnwritten, DebugEffect}
-use Rattle.alpha_debug.proofs.Sinks.{output_without_block, Puts-output_change}
+use Rattle.alpha_debug.proofs.SinkEffects.{output_without_block, Puts-output_change}
 
 -- the transcript is that from the start
 told-is : (image : Parts) (d : Debugger) (script : List ℕ) → IsOpened image d
@@ -20,9 +20,9 @@ told-is : (image : Parts) (d : Debugger) (script : List ℕ) → IsOpened image 
 unfolding transcript
 told-is image d script opens = ap (λ (s : Session). transcript_from (setting_of d) s script_limit [] script) opens.start
 
-follows : (image : Parts) (d : Debugger) (script : Drawn) (taken rest : List ℕ) → IsOpened image d
+Follows-told : (image : Parts) (d : Debugger) (script : Drawn) (taken rest : List ℕ) → IsOpened image d
     → Reads script taken rest → Follows image script (told_from d [] script_limit [] (taken ++ rest))
-follows image d script taken rest opens reads = record {
+Follows-told image d script taken rest opens reads = record {
   taken = taken;
   rest = rest;
   is = record { setting = setting_of d; is_setting = opens.setting; is = told-is image d (taken ++ rest) opens };
@@ -31,15 +31,15 @@ follows image d script taken rest opens reads = record {
   most = reads.most;
 }
 
-whole : (end : DebugEnd) (image : Parts) (d : Debugger) (script : Drawn) (out : SinkChange) → IsOpened image d
+IsWhole-told : (end : DebugEnd) (image : Parts) (d : Debugger) (script : Drawn) (out : SinkChange) → IsOpened image d
     → Tells d end script (output_without_block out) → IsWhole end image script out
-unfolding follows
-whole end image d script out opens tells =
+unfolding Follows-told
+IsWhole-told end image d script out opens tells =
     let t : Transcript = told_from d [] script_limit [] (tells.taken ++ tells.rest) in
     let is : t ≡ record { text = tells.put; end = end } = tells.is [] in
     record {
       told = t;
-      follows = follows image d script tells.taken tells.rest opens tells.reads;
+      follows = Follows-told image d script tells.taken tells.rest opens tells.reads;
       alone = record {
         setting = setting_of d;
         is_setting = opens.setting;
@@ -52,15 +52,15 @@ whole end image d script out opens tells =
       end_is = ap (λ (u : Transcript). u.end) is;
     }
 
-unread : (image : Parts) (d : Debugger) (script : Drawn) (out : SinkChange) → IsOpened image d
+IsUnread-reading_fails : (image : Parts) (d : Debugger) (script : Drawn) (out : SinkChange) → IsOpened image d
     → ReadingFails d script (output_without_block out) → IsUnread image script out
-unread image d script out opens fails =
+IsUnread-reading_fails image d script out opens fails =
     let t : Transcript = told_from d [] script_limit [] (fails.taken ++ fails.rest) in
     let more = fails.more [] in
     let wrote : Puts out fails.put = Puts-output_change (output_without_block out) fails.put refl refl fails.wrote in
     record {
       told = t;
-      follows = follows image d script fails.taken fails.rest opens fails.reads;
+      follows = Follows-told image d script fails.taken fails.rest opens fails.reads;
       later = fails.later;
       cause = fails.cause;
       part = subst (WritesPartly out) (sym more.is) (WritesPartly-whole out fails.put more.bytes wrote);
@@ -74,7 +74,7 @@ unwritten image d script out opens fails =
     let breaks = fails.breaks [] in
     record {
       told = t;
-      follows = follows image d script fails.taken fails.rest opens fails.reads;
+      follows = Follows-told image d script fails.taken fails.rest opens fails.reads;
       same = fails.same;
       part = subst (WritesPartly out) (sym breaks.is) breaks.stops.part;
       cause = breaks.stops.failed;
@@ -82,8 +82,8 @@ unwritten image d script out opens fails =
 
 pub opened_effect : (end : DebugEnd) (image : Parts) (d : Debugger) (script : Drawn) (out : SinkChange)
     → IsOpened image d → TellEffect end d script (output_without_block out) → DebugEffect end image script out
-opened_effect Done image d script out opens did = whole Done image d script out opens did
-opened_effect TooLarge image d script out opens did = whole TooLarge image d script out opens did
-opened_effect InputFault image d script out opens did = unread image d script out opens did
+opened_effect Done image d script out opens did = IsWhole-told Done image d script out opens did
+opened_effect TooLarge image d script out opens did = IsWhole-told TooLarge image d script out opens did
+opened_effect InputFault image d script out opens did = IsUnread-reading_fails image d script out opens did
 opened_effect SinkFault image d script out opens did = unwritten image d script out opens did
 opened_effect NoMemory image d script out opens did = absurd did

@@ -26,8 +26,8 @@ use Rattle.alpha_debug.specs.Session.{with_where_line, continue_until, has_point
 use Rattle.alpha_debug.specs.Session.{answer}
 use Rattle.alpha_debug.specs.OutputChange.{output_change_by, AppendsOutput, SinkFailsWith}
 use Rattle.alpha_debug.specs.Effects.{Grows, session_of, with_block, IsOpened, SessionEffect, Fails, IsQuiet}
-use Rattle.alpha_debug.proofs.Sinks.{Grows-same, Grows-by, Grows-trans, FailsBehind-after, AppendsOutput-both}
-use Rattle.alpha_debug.proofs.Steps.{step_until-grows}
+use Rattle.alpha_debug.proofs.SinkEffects.{Grows-same, Grows-by, Grows-trans, FailsBehind-after, AppendsOutput-both}
+use Rattle.alpha_debug.proofs.DebuggerSteps.{step_until-grows}
 
 -- ---- what is said
 
@@ -140,10 +140,10 @@ answer-shown g Unknown s e = refl
 -- ---- what is put of it
 
 -- where nothing was seen put, the program puts nothing, and else nothing waits
-pub hands : (has : Bool) (becomes : Session → Session) (old : Debugger) (waits : List ℕ)
+pub IsQuiet-or_nothing_waits : (has : Bool) (becomes : Session → Session) (old : Debugger) (waits : List ℕ)
     → (has ≡ false → IsQuiet becomes old) → (has ≡ true → waits ≡ []) → IsQuiet becomes old ⊎ (waits ≡ [])
-hands true becomes old waits quiet empty = inr (empty refl)
-hands false becomes old waits quiet empty = inl (quiet refl)
+IsQuiet-or_nothing_waits true becomes old waits quiet empty = inr (empty refl)
+IsQuiet-or_nothing_waits false becomes old waits quiet empty = inl (quiet refl)
 
 -- ---- the start
 

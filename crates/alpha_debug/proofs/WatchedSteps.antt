@@ -14,7 +14,7 @@ use Rattle.alpha_seq.specs.Run.{taken, output}
 use Rattle.alpha_seq.specs.StepLabel.{StepLabel, HasPassed}
 use Rattle.alpha_seq.specs.Sequential.{SeqStep}
 use Rattle.alpha_run.specs.Row.{Row, AreWent, events_of, lines_by, seen_by, Unstopped}
-use Rattle.alpha_run.proofs.Rows.{output-append}
+use Rattle.alpha_run.proofs.StepRows.{output-append}
 use Rattle.alpha_run.specs.RunEffect.{PassesOver}
 use Rattle.alpha_debug.specs.declared.watcher.Until.{Until}
 use Rattle.alpha_debug.specs.declared.watcher.Until.TheVariants as until
@@ -23,7 +23,7 @@ use Rattle.alpha_debug.specs.Session.{is_reached}
 use Rattle.alpha_debug.specs.OutputChange.{put_for, waits_for}
 use Rattle.alpha_debug.specs.Watched.{was_put, put_behind, waits_behind, watched_lines, watched_after, watched_stops}
 use Rattle.alpha_debug.specs.Watched.{all_steps, room_for, watched_room, watches}
-use Rattle.alpha_debug.proofs.Sinks.{both-whole}
+use Rattle.alpha_debug.proofs.SinkEffects.{both-whole}
 use Rattle.alpha_debug.proofs.BlockContents.{all_for}
 
 -- ---- what is put and what waits
@@ -78,14 +78,14 @@ seen-kept w (p ∷ ps) = seen-kept (watched_after w p.event p.core) ps
 -- ---- whether the program has put something
 
 -- a step that put nothing
-unput : (event : SeenEvent) (mem : List Block) (taken bytes : List ℕ) → HasPassed event mem taken bytes
+HasPassed-nothing_put : (event : SeenEvent) (mem : List Block) (taken bytes : List ℕ) → HasPassed event mem taken bytes
     → was_put event ≡ false → bytes ≡ []
-unput events.Went mem taken bytes h none = h.1
-unput (events.Barrier passes.Nothing) mem taken bytes h none = h.1
-unput (events.Barrier (passes.Took addr len)) mem taken bytes h none = h.2
-unput (events.Barrier (passes.Put addr len)) mem taken bytes h none = absurd cc
-unput (events.Overflowed at) mem taken bytes h none = h.1
-unput event mem taken bytes h none = h.1
+HasPassed-nothing_put events.Went mem taken bytes h none = h.1
+HasPassed-nothing_put (events.Barrier passes.Nothing) mem taken bytes h none = h.1
+HasPassed-nothing_put (events.Barrier (passes.Took addr len)) mem taken bytes h none = h.2
+HasPassed-nothing_put (events.Barrier (passes.Put addr len)) mem taken bytes h none = absurd cc
+HasPassed-nothing_put (events.Overflowed at) mem taken bytes h none = h.1
+HasPassed-nothing_put event mem taken bytes h none = h.1
 
 or-true : (b : Bool) → (b || true) ≡ true
 or-true true = refl
@@ -103,9 +103,9 @@ unput-by : (b : Bool) (v : Watcher) (ps : List StepLabel) → v.has_put ≡ b
 unput-by true v ps e none = absurd (let late = stays-put v ps e in cc)
 unput-by false v ps e none = refl
 
-or-none : (a b : Bool) → (a || b) ≡ false → a ≡ false
-or-none true b e = absurd cc
-or-none false b e = refl
+or-false_first : (a b : Bool) → (a || b) ≡ false → a ≡ false
+or-false_first true b e = absurd cc
+or-false_first false b e = refl
 
 -- steps in a row that put nothing
 pub row-quiet : (w : Watcher) (ps : List StepLabel) (old new : Machine) → Row SeqStep old ps new
@@ -114,10 +114,10 @@ row-quiet w [] old new row none = refl
 row-quiet w (p ∷ ps) old new row none =
     let v = watched_after w p.event p.core in
     let one : was_put p.event ≡ false =
-    or-none (was_put p.event) w.has_put (unput-by v.has_put v ps refl none) in
+    or-false_first (was_put p.event) w.has_put (unput-by v.has_put v ps refl none) in
     output-append p.seen (events_of ps)
     ∙ (ap (λ (l : List ℕ). l ++ output (events_of ps))
-    (unput p.event p.core.memory (taken p.seen) (output p.seen) row.1.passes one)
+    (HasPassed-nothing_put p.event p.core.memory (taken p.seen) (output p.seen) row.1.passes one)
     ∙ row-quiet v ps row.0 new row.2 none)
 
 -- ---- steps that only went on

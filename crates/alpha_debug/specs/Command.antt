@@ -59,8 +59,8 @@ abbrev pub is_within : ℕ → ℕ → Bool
 is_within most n = nat_le 1 n && nat_le n most
 
 -- a word alone that moves nothing
-abbrev pub asking : List ℕ → Command
-asking name =
+abbrev pub command_without_step : List ℕ → Command
+command_without_step name =
     if bytes_eq name (codes "regs") then Registers
     else if bytes_eq name (codes "shadow") then Shadow
     else if bytes_eq name (codes "log") then Log
@@ -68,12 +68,12 @@ asking name =
     else Unknown
 
 -- a word alone
-abbrev pub alone : List ℕ → Command
-alone name =
+abbrev pub command_alone : List ℕ → Command
+command_alone name =
     if bytes_eq name (codes "step") then Step 1
     else if bytes_eq name (codes "go") then Go
     else if bytes_eq name (codes "barrier") then Barrier
-    else asking name
+    else command_without_step name
 
 -- a word and a number
 abbrev pub with_number : List ℕ → ℕ → Command
@@ -101,7 +101,7 @@ by_range name at count = Unknown
 
 abbrev pub command_in : List (List ℕ) → Command
 command_in [] = Nothing
-command_in (name ∷ []) = alone name
+command_in (name ∷ []) = command_alone name
 command_in (name ∷ first ∷ []) = by_number name (number_in first)
 command_in (name ∷ first ∷ second ∷ []) = by_range name (number_in first) (number_in second)
 command_in (name ∷ first ∷ second ∷ third ∷ more) = Unknown

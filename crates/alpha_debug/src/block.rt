@@ -52,7 +52,7 @@ impl Block {
     }
 
     /// Forgets the bytes from a place on.
-    pub fn cut(&mut self, len: usize)
+    pub fn truncate(&mut self, len: usize)
         ensures { self.new ≡ take len self.old }
     {
         self.len = self.len.min(len);

@@ -1,6 +1,7 @@
 ghost use Rattle.std.specs.Prelude.{◌≡◌};
 ghost use Rattle.std.specs.Str.{bytes_eq};
-ghost use Rattle.alpha_debug.specs.Command.{command_of, command_in, words, alone, asking, with_number, with_range};
+ghost use Rattle.alpha_debug.specs.Command.{command_of, command_in, words, command_alone, command_without_step};
+ghost use Rattle.alpha_debug.specs.Command.{with_number, with_range};
 ghost use Rattle.alpha_debug.specs.Command.{by_number, by_range, is_within};
 
 use crate::word::{first_word, number_in};
@@ -66,7 +67,7 @@ fn command_in(line: &[u8]) -> Command
     }
     let (first, rest) = first_word(rest);
     if first.is_empty() {
-        return alone(name);
+        return command_alone(name);
     }
     let (second, rest) = first_word(rest);
     if second.is_empty() {
@@ -80,31 +81,31 @@ fn command_in(line: &[u8]) -> Command
 }
 
 // What a word alone says.
-fn alone(name: &[u8]) -> Command
-    ensures { result ≡ alone name.now }
+fn command_alone(name: &[u8]) -> Command
+    ensures { result ≡ command_alone name.now }
 {
-    if is(name, b"step") {
+    if is_word(name, b"step") {
         Command::Step(1)
-    } else if is(name, b"go") {
+    } else if is_word(name, b"go") {
         Command::Go
-    } else if is(name, b"barrier") {
+    } else if is_word(name, b"barrier") {
         Command::Barrier
     } else {
-        asking(name)
+        command_without_step(name)
     }
 }
 
 // The command of a word that makes no step.
-fn asking(name: &[u8]) -> Command
-    ensures { result ≡ asking name.now }
+fn command_without_step(name: &[u8]) -> Command
+    ensures { result ≡ command_without_step name.now }
 {
-    if is(name, b"regs") {
+    if is_word(name, b"regs") {
         Command::Registers
-    } else if is(name, b"shadow") {
+    } else if is_word(name, b"shadow") {
         Command::Shadow
-    } else if is(name, b"log") {
+    } else if is_word(name, b"log") {
         Command::Log
-    } else if is(name, b"quit") {
+    } else if is_word(name, b"quit") {
         Command::Quit
     } else {
         Command::Unknown
@@ -124,15 +125,15 @@ fn by_number(name: &[u8], number: Option<u64>) -> Command
 fn with_number(name: &[u8], n: u64) -> Command
     ensures { result ≡ with_number name.now n }
 {
-    if is(name, b"step") {
+    if is_word(name, b"step") {
         if is_within(MOST_STEPS, n) {
             Command::Step(n)
         } else {
             Command::Unknown
         }
-    } else if is(name, b"break") {
+    } else if is_word(name, b"break") {
         Command::Break(n)
-    } else if is(name, b"clear") {
+    } else if is_word(name, b"clear") {
         Command::Clear(n)
     } else {
         Command::Unknown
@@ -154,9 +155,9 @@ fn with_range(name: &[u8], at: u64, count: u64) -> Command
 {
     if !is_within(MOST_SHOWN, count) {
         Command::Unknown
-    } else if is(name, b"mem") {
+    } else if is_word(name, b"mem") {
         Command::Memory(at, count)
-    } else if is(name, b"dis") {
+    } else if is_word(name, b"dis") {
         Command::Listing(at, count)
     } else {
         Command::Unknown
@@ -169,7 +170,7 @@ fn is_within(most: u64, n: u64) -> bool
     1 <= n && n <= most
 }
 
-fn is(name: &[u8], wanted: &[u8]) -> bool
+fn is_word(name: &[u8], wanted: &[u8]) -> bool
     ensures { result ≡ bytes_eq name.now wanted.now }
 {
     name == wanted

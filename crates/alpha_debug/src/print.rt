@@ -44,7 +44,7 @@ pub(crate) fn print_registers<K: Sink>(
     match write_registers(regs, block) {
         Ok(()) => Ok(()),
         Err(Failed) => {
-            block.cut(waiting);
+            block.truncate(waiting);
             block.flush(out)?;
             write_registers(regs, out)
         }
@@ -161,13 +161,13 @@ pub(crate) fn print_code<K: Sink>(
         (code_lines image.now (place_of image.now at) count)) }
 {
     match image.place_of(at) {
-        Some(place) => print_words(image, place, count, block, out),
+        Some(place) => print_code_lines(image, place, count, block, out),
         None => emit(b"bad range\n", block, out),
     }
 }
 
 // Takes the lines of code words from a place on.
-fn print_words<K: Sink>(
+fn print_code_lines<K: Sink>(
     image: &Image,
     place: u32,
     count: u64,

@@ -6,12 +6,12 @@ use Rattle.std.proofs.lemmas.Bool.{eq-eqb, ne_eqb}
 use Rattle.std.proofs.Math.Nat.{pow-suc}
 
 -- the digits of n, of which there are so many at most, and behind them those that are written
-unfoldable pub onto : ℕ → ℕ → List ℕ → List ℕ
-onto most n written = digits_onto (most + 48) 16 false n written
+unfoldable pub hex_digits_onto : ℕ → ℕ → List ℕ → List ℕ
+hex_digits_onto most n written = digits_onto (most + 48) 16 false n written
 
-pub onto-none : (n : ℕ) → onto 16 n [] ≡ digits 16 false n
-unfolding onto digits
-onto-none n = refl
+pub hex_digits_onto-none : (n : ℕ) → hex_digits_onto 16 n [] ≡ digits 16 false n
+unfolding hex_digits_onto digits
+hex_digits_onto-none n = refl
 
 by_last : (k n : ℕ) (written : List ℕ) (is_last : Bool) → eqb (n / 16) 0 ≡ is_last
     → digits_onto (suc k) 16 false n written
@@ -23,17 +23,18 @@ by_last k n written is_last e =
     e
 
 -- the last digit of a number that has more
-pub onto-more : (most n : ℕ) (written : List ℕ) → 16 ≤ n
-    → onto (suc most) n written ≡ onto most (n / 16) (digit_glyph false (n % 16) ∷ written)
-unfolding onto
-onto-more most n written more =
+pub hex_digits_onto-more : (most n : ℕ) (written : List ℕ) → 16 ≤ n
+    → hex_digits_onto (suc most) n written ≡ hex_digits_onto most (n / 16) (digit_glyph false (n % 16) ∷ written)
+unfolding hex_digits_onto
+hex_digits_onto-more most n written more =
     ap (λ (k : ℕ). digits_onto k 16 false n written) {x = suc most + 48} {y = suc (most + 48)} (omega arith)
     ∙ by_last (most + 48) n written false (ne_eqb (n / 16) 0 (λ e. omega arith))
 
 -- and of a number that has none
-pub onto-last : (most n : ℕ) (written : List ℕ) → n < 16 → onto most n written ≡ digit_glyph false (n % 16) ∷ written
-unfolding onto
-onto-last most n written last =
+pub hex_digits_onto-last : (most n : ℕ) (written : List ℕ) → n < 16
+    → hex_digits_onto most n written ≡ digit_glyph false (n % 16) ∷ written
+unfolding hex_digits_onto
+hex_digits_onto-last most n written last =
     ap (λ (k : ℕ). digits_onto k 16 false n written) {x = most + 48} {y = suc (most + 47)} (omega arith)
     ∙ by_last (most + 47) n written true (eq-eqb (n / 16) 0 (omega arith))
 

@@ -1,5 +1,5 @@
-pub mod Blocks
+pub mod BlockEffects
 pub mod Hexadecimal
 pub mod NameSizes
 pub mod PutPieces
-pub mod Texts
+pub mod ListingTexts

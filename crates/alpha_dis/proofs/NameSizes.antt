@@ -6,7 +6,7 @@ use Rattle.std.proofs.lemmas.Bool.Decides.{nat_tests}
 use Rattle.alpha_table.specs.declared.names.Mnemonic.{Mnemonic}
 use Rattle.alpha_table.specs.Names.{name_of}
 use Rattle.alpha_text.specs.Heads.{every_mnemonic}
-use Rattle.alpha_text.proofs.Names.{mnemonic_at-name, found-all}
+use Rattle.alpha_text.proofs.NameLookups.{mnemonic_at-name, found-all}
 
 each_long : list_all (λ m. nat_le 2 (length (name_of m))) every_mnemonic ≡ true
 unfolding every_mnemonic

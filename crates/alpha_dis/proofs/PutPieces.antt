@@ -25,8 +25,8 @@ before-put_mid place size count bytes piece within few =
 
 -- ---- pairs of digits
 
-abbrev pub pair : ℕ → List ℕ
-pair n = (48 + n / 10) ∷ (48 + n % 10) ∷ []
+abbrev pub pair_digits : ℕ → List ℕ
+pair_digits n = (48 + n / 10) ∷ (48 + n % 10) ∷ []
 
 abbrev are_pairs : ℕ → Bool
 are_pairs zero = true
@@ -36,30 +36,30 @@ are_pairs (suc n) =
 all_pairs : are_pairs 100 ≡ true
 all_pairs = refl
 
-below : (most n : ℕ) → are_pairs most ≡ true → n < most
+are_pairs-digits : (most n : ℕ) → are_pairs most ≡ true → n < most
     → (get_or PAIRS (2 * n) 0 ≡ 48 + n / 10) × (get_or PAIRS (2 * n + 1) 0 ≡ 48 + n % 10)
-below zero n h within = absurd (omega arith)
-below (suc most) n h within =
+are_pairs-digits zero n h within = absurd (omega arith)
+are_pairs-digits (suc most) n h within =
     let (here, rest) =
     and_parts (eqb (get_or PAIRS (2 * most) 0) (48 + most / 10) && eqb (get_or PAIRS (2 * most + 1) 0) (48 + most % 10))
     (are_pairs most) h in
     let (tens, ones) = and_parts (eqb (get_or PAIRS (2 * most) 0) (48 + most / 10))
     (eqb (get_or PAIRS (2 * most + 1) 0) (48 + most % 10)) here in
     ⊎_elim
-    (λ (less : n < most). below most n rest less)
+    (λ (less : n < most). are_pairs-digits most n rest less)
     (λ (last : most ≤ n).
     let e : n ≡ most = omega arith in
     rw e (eqb-true _ _ tens, eqb-true _ _ ones))
     (cases_lt n most)
 
 pub PAIRS_at : (n : ℕ) → n < 100 → (get_or PAIRS (2 * n) 0 ≡ 48 + n / 10) × (get_or PAIRS (2 * n + 1) 0 ≡ 48 + n % 10)
-PAIRS_at n h = below 100 n all_pairs h
+PAIRS_at n h = are_pairs-digits 100 n all_pairs h
 
-pub decimal_two : (n : ℕ) → 10 ≤ n → n < 100 → decimal n ≡ pair n
+pub decimal_two : (n : ℕ) → 10 ≤ n → n < 100 → decimal n ≡ pair_digits n
 decimal_two n least most = rw (decimal_step n least (omega arith), decimal_digit (n / 10) (omega arith)) refl
 
 -- a number of three digits or more, without its last two and with them
-pub decimal_pair : (n : ℕ) → 100 ≤ n → n < 2 ^ 64 → decimal n ≡ decimal (n / 100) ++ pair (n % 100)
+pub decimal_pair : (n : ℕ) → 100 ≤ n → n < 2 ^ 64 → decimal n ≡ decimal (n / 100) ++ pair_digits (n % 100)
 decimal_pair n least most =
     let front : n / 10 / 10 ≡ n / 100 = omega arith in
     let tens : n / 10 % 10 ≡ n % 100 / 10 = omega arith in
@@ -75,9 +75,10 @@ decimal_pair n least most =
 
 -- and without its last four
 pub decimal_pairs : (n : ℕ) → 10000 ≤ n → n < 2 ^ 64
-    → decimal n ≡ (decimal (n / 10000) ++ pair (n / 100 % 100)) ++ pair (n % 100)
+    → decimal n ≡ (decimal (n / 10000) ++ pair_digits (n / 100 % 100)) ++ pair_digits (n % 100)
 decimal_pairs n least most =
     let front : n / 100 / 100 ≡ n / 10000 = omega arith in
     decimal_pair n (omega arith) most
-    ∙ ap (λ (l : List ℕ). l ++ pair (n % 100))
-    (decimal_pair (n / 100) (omega arith) (omega arith) ∙ ap (λ (k : ℕ). decimal k ++ pair (n / 100 % 100)) front)
+    ∙ ap (λ (l : List ℕ). l ++ pair_digits (n % 100))
+    (decimal_pair (n / 100) (omega arith) (omega arith)
+    ∙ ap (λ (k : ℕ). decimal k ++ pair_digits (n / 100 % 100)) front)

@@ -11,18 +11,19 @@ use Rattle.alpha_shadow.specs.declared.broken.Condition.TheVariants.{ZeroDestina
 use Rattle.alpha_shadow.specs.declared.broken.Condition.TheVariants.{WildBase, LoadThenStore, Locked, Turn, Open, Long}
 use Rattle.alpha_shadow.specs.Code.{kind_at}
 use Rattle.alpha_shadow.specs.Broken.{IsBroken, IsAccepted}
-use Rattle.alpha_shadow.proofs.Tables.{kind_within, no_access, no_set}
+use Rattle.alpha_shadow.proofs.WordColumns.{kind_within, no_access, no_set}
 use Rattle.alpha_shadow.proofs.Decided.{not_past_end}
 use Rattle.alpha_fix.specs.Cuts.{BreaksAbove, IsNextCut, AreCutsAbove, AreCuts, trapb, barred_from, barred, without}
 use Rattle.alpha_fix.specs.Cuts.{HasBroken, NoneAlone}
-use Rattle.alpha_fix.proofs.Alike.{LooksAlike-same_word, Stretch, broken_along}
+use Rattle.alpha_fix.proofs.StretchesAlike.{LooksAlike-same_word, Stretch, broken_along}
 
 -- the items of a list in parts
 
-get_before : (front rest : List ℕ) (k : ℕ) → k < length front → slice_get (front ++ rest) k ≡ slice_get front k
-get_before [] rest k h = absurd (omega arith)
-get_before (x ∷ front) rest zero h = refl
-get_before (x ∷ front) rest (suc k) h = get_before front rest k (omega arith)
+slice_get-append_front : (front rest : List ℕ) (k : ℕ) → k < length front
+    → slice_get (front ++ rest) k ≡ slice_get front k
+slice_get-append_front [] rest k h = absurd (omega arith)
+slice_get-append_front (x ∷ front) rest zero h = refl
+slice_get-append_front (x ∷ front) rest (suc k) h = slice_get-append_front front rest k (omega arith)
 
 get_past : (front : List ℕ) (x : ℕ) (rest : List ℕ) (k : ℕ)
     → slice_get (front ++ x ∷ rest) (suc (length front + k)) ≡ slice_get rest k
@@ -82,7 +83,7 @@ get_piece : (code : List ℕ) (from cut : ℕ) (rest : List ℕ) (k : ℕ) → f
     → slice_get (take (cut - from) (drop from code) ++ rest) k ≡ slice_get code (from + k)
 get_piece code from cut rest k o within h =
     let e : length (take (cut - from) (drop from code)) ≡ cut - from = piece_length code from cut o within in
-    get_before (take (cut - from) (drop from code)) rest k (omega arith)
+    slice_get-append_front (take (cut - from) (drop from code)) rest k (omega arith)
     ∙ (get_take (cut - from) (drop from code) k h ∙ get_drop from code k)
 
 out_of_piece : (code : List ℕ) (from cut : ℕ) (rest : List ℕ) (t at : ℕ) → from ≤ cut → cut ≤ length code → t ≤ at
@@ -116,9 +117,9 @@ into_piece code from cut rest t at o within since p below = record {
 }
 
 -- behind a barrier
-past : (front : List ℕ) (x : ℕ) (rest : List ℕ) (t at : ℕ) → length front < t → t ≤ at
+Stretch-behind_barrier : (front : List ℕ) (x : ℕ) (rest : List ℕ) (t at : ℕ) → length front < t → t ≤ at
     → Stretch (front ++ x ∷ rest) t at rest (t - suc (length front)) (at - suc (length front))
-past front x rest t at above o = record {
+Stretch-behind_barrier front x rest t at above o = record {
   shift = omega arith;
   alike =
       λ k j a l e. LooksAlike-same_word (front ++ x ∷ rest) k rest j
@@ -230,7 +231,7 @@ accepted_from code from (cut ∷ cuts) alone within (next, more) t at c b =
     (λ (late : length front < t).
     accepted_from code cut cuts alone below more (t - suc (length front)) (at - suc (length front)) c
     (broken_along (front ++ trapb ∷ rest) t at rest (t - suc (length front)) (at - suc (length front))
-    (past front trapb rest t at late o) c b))
+    (Stretch-behind_barrier front trapb rest t at late o) c b))
     (λ (early : t ≤ length front).
     ⊎_elim
     (λ (l : length front < at). none_through front rest t at c early l b)

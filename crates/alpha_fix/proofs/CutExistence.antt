@@ -6,7 +6,7 @@ use Rattle.alpha_shadow.specs.declared.broken.Condition.{Condition}
 use Rattle.alpha_shadow.specs.declared.broken.Broken.{Broken}
 use Rattle.alpha_shadow.specs.Broken.{IsAccepted}
 use Rattle.alpha_shadow.specs.Least.{IsLeastBroken, condition_number}
-use Rattle.alpha_shadow.proofs.Conditions.{condition_number-injective}
+use Rattle.alpha_shadow.proofs.ConditionNumbers.{condition_number-injective}
 use Rattle.alpha_shadow.proofs.Decided.{accepted_or_broken}
 use Rattle.alpha_fix.specs.Cuts.{AreCuts, NoneAlone, NoneFrom, IsLeastFrom}
 use Rattle.alpha_fix.specs.Fix.{IsLeastAlone}

@@ -9,7 +9,7 @@ use Rattle.alpha_shadow.specs.Broken.{IsBroken, IsAccepted}
 use Rattle.alpha_shadow.specs.Least.{condition_number, IsLeastBroken}
 use Rattle.alpha_fix.specs.Cuts.{IsNextCut, AreCutsAbove, AreCuts, IsBrokenAlone, NoneAlone, NoneFrom, IsLeastFrom}
 use Rattle.alpha_fix.specs.Fix.{IsLeastAlone}
-use Rattle.alpha_fix.proofs.Alike.{broken_along}
+use Rattle.alpha_fix.proofs.StretchesAlike.{broken_along}
 use Rattle.alpha_fix.proofs.BarredCode.{Stretch-from_suffix, Stretch-to_suffix, broken_within}
 
 -- the rest of the code, judged by itself
@@ -21,14 +21,14 @@ none_from code rest from within e accepted trigger at c since b =
     (broken_along code trigger at (drop from code) (trigger - from) (at - from)
     (Stretch-to_suffix code from trigger at within since b.order) c b)
 
-shifted : (from at trigger other place : ℕ) (c d : Condition) → from ≤ other → from ≤ place
+least_broken-shifted : (from at trigger other place : ℕ) (c d : Condition) → from ≤ other → from ≤ place
     → (at < place - from)
     ⊎ ((at ≡ place - from)
     × ((trigger < other - from) ⊎ ((trigger ≡ other - from) × (condition_number c ≤ condition_number d))))
     → (from + at < place)
     ⊎ ((from + at ≡ place)
     × ((from + trigger < other) ⊎ ((from + trigger ≡ other) × (condition_number c ≤ condition_number d))))
-shifted from at trigger other place c d h k o = ⊎_elim
+least_broken-shifted from at trigger other place c d h k o = ⊎_elim
     (λ (l : at < place - from). inl (omega arith))
     (λ w. let e : at ≡ place - from = w.0 in inr (
       omega arith,
@@ -52,7 +52,7 @@ least_from code rest from b within e l =
           (Stretch-from_suffix code from b.trigger b.at within o) b.condition m.broken;
       least = λ trigger at c since h.
           let p = h.order in
-          shifted from b.at b.trigger trigger at b.condition c since (omega arith)
+          least_broken-shifted from b.at b.trigger trigger at b.condition c since (omega arith)
           (m.least (trigger - from) (at - from) c
           (broken_along code trigger at (drop from code) (trigger - from) (at - from)
           (Stretch-to_suffix code from trigger at within since p) c h));

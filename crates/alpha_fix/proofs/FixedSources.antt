@@ -1,7 +1,7 @@
 -- The laws of fixed sources.
 use Rattle.std.proofs.Common.{◌≡◌, ◌+◌, ℕ, List, [], ◌∷◌, Some, slice_get, refl, sym, ◌∙◌, ap, subst}
 use Rattle.std.proofs.lemmas.Option.{slice_get_within}
-use Rattle.alpha_text.proofs.Returns.{read-with_return}
+use Rattle.alpha_text.proofs.CarriageReturns.{read-with_return}
 use Rattle.alpha_shadow.specs.Broken.{IsAccepted}
 use Rattle.alpha_fix.specs.Cuts.{AreCuts, without, HasBroken}
 use Rattle.alpha_fix.specs.FixedSource.{fixed_source}
@@ -9,7 +9,7 @@ use Rattle.alpha_fix.specs.Fix.{HasImage, IsFixedSource}
 use Rattle.alpha_fix.proofs.FixedItems.{fixed_source-no_cuts}
 use Rattle.alpha_fix.proofs.BarredCode.{AreCuts-single}
 use Rattle.alpha_fix.proofs.SteadyClasses.{cuts_alike}
-use Rattle.alpha_fix.proofs.Sources.{by_code, source_accepted, source_needed}
+use Rattle.alpha_fix.proofs.SourcePrograms.{by_code, source_accepted, source_needed}
 
 image_of : (source text : List ℕ) (f : IsFixedSource source text) → HasImage (fixed_source source f.cuts) f.fixed
 image_of source text f = subst (λ (s : List ℕ). HasImage s f.fixed) f.text_is f.has_image

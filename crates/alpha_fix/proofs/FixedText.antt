@@ -22,8 +22,8 @@ use Rattle.alpha_asm.specs.SourceLines.{Is, IsFirst}
 use Rattle.alpha_fix.specs.Lines.{role}
 use Rattle.alpha_asm.proofs.SourceLines.{texts_of}
 use Rattle.alpha_fix.proofs.FixedItems.{items_by_lines}
-use Rattle.alpha_fix.proofs.Marks.{below_cuts}
-use Rattle.alpha_fix.proofs.Sources.{AllRead, all_read}
+use Rattle.alpha_fix.proofs.BarrierMarks.{below_cuts}
+use Rattle.alpha_fix.proofs.SourcePrograms.{AllRead, all_read}
 
 -- a place that isn't the first of the cuts is none of them
 pub is_cut-not_first : (cuts : List ℕ) (place : ℕ) → Rise place cuts → 1 ≤ length cuts → (get_or cuts 0 0 ≡ place → ⊥)
@@ -33,8 +33,8 @@ is_cut-not_first (cut ∷ cuts) place (l, r) some ne =
     let t : eqb cut place ≡ false = grind (arith, nat_tests) in
     sym (ap (λ b. b || is_cut cuts place) t ∙ below_cuts (cut + 1) place cuts r (omega arith))
 
-abbrev test : List ℕ → ℕ → Stmt → Bool
-test source base = depends_on_position (names_code (items_of source)) base
+abbrev is_position_dependent : List ℕ → ℕ → Stmt → Bool
+is_position_dependent source base = depends_on_position (names_code (items_of source)) base
 
 pub record TextUnderway (source cuts : List ℕ) (words base : ℕ) (rest text left : List ℕ)
     (number place : ℕ) : Type 0 where
@@ -46,7 +46,8 @@ pub record TextUnderway (source cuts : List ℕ) (words base : ℕ) (rest text l
   pub rise : Rise place left
   pub count : place + length (filter has_word (source_lines rest)) ≡ words
   -- no line so far is fixed
-  pub free : least_line (test source base) number (map line_item (source_lines rest)) ≡ fixed_line source
+  pub free : least_line (is_position_dependent source base) number (map line_item (source_lines rest))
+      ≡ fixed_line source
   pub read : AllRead (map line_text (source_lines rest))
   pub size : number + length rest ≤ length source + 1
 
@@ -61,8 +62,8 @@ TextUnderway-start source cuts words base b w r t = record {
   rise = r;
   count = omega (arith, w);
   free =
-      ap (λ (n : ℕ). least_line (test source n) 1 (map line_item (source_lines source))) b
-      ∙ ap (least_line (test source (code_base (items_of source))) 1) (sym (items_by_lines source));
+      ap (λ (n : ℕ). least_line (is_position_dependent source n) 1 (map line_item (source_lines source))) b
+      ∙ ap (least_line (is_position_dependent source (code_base (items_of source))) 1) (sym (items_by_lines source));
   read = subst AllRead (texts_of source) (all_read [] (lines source) t);
   size = omega arith;
 }
@@ -111,13 +112,17 @@ module _ (source cuts : List ℕ) (words base : ℕ) (rest text left : List ℕ)
   word_here = ap (λ (t : List ℕ). has_insn (item_at t)) (sym f.is.text)
 
   free_here : cond (depends_on_position (names_code (items_of symbols)) base item_here.statement)
-      (Some number) (least_line (test source base) (number + 1) (map line_item (source_lines l.rest.now)))
+      (Some number)
+      (least_line (is_position_dependent source base) (number + 1) (map line_item (source_lines l.rest.now)))
       ≡ fixed_line source
   free_here =
       ap
-      (λ b. cond b (Some number) (least_line (test source base) (number + 1) (map line_item (source_lines l.rest.now))))
+      (λ b. cond b (Some number)
+      (least_line (is_position_dependent source base) (number + 1) (map line_item (source_lines l.rest.now))))
       fixed_here
-      ∙ (ap (λ (ls : List SourceLine). least_line (test source base) number (map line_item ls)) (sym f.lines) ∙ u.free)
+      ∙ (ap (λ (ls : List SourceLine). least_line (is_position_dependent source base) number (map line_item ls))
+      (sym f.lines)
+      ∙ u.free)
 
   pub fixed_now : FixedLine
       ≡ role (depends_on_position (names_code (items_of symbols)) base item_here.statement) (has_insn item_here)
@@ -126,13 +131,16 @@ module _ (source cuts : List ℕ) (words base : ℕ) (rest text left : List ℕ)
       let t = role_fixed (depends_on_position (names_code (items_of symbols)) base item_here.statement)
       (has_insn item_here) e in
       sym (ap (λ b. cond b (Some number)
-      (least_line (test source base) (number + 1) (map line_item (source_lines l.rest.now)))) (sym t) ∙ free_here)
+      (least_line (is_position_dependent source base) (number + 1) (map line_item (source_lines l.rest.now)))) (sym t)
+      ∙ free_here)
 
   free_on : depends_on_position (names_code (items_of symbols)) base item_here.statement ≡ false
-      → least_line (test source base) (number + 1) (map line_item (source_lines l.rest.now)) ≡ fixed_line source
+      → least_line (is_position_dependent source base) (number + 1) (map line_item (source_lines l.rest.now))
+      ≡ fixed_line source
   free_on t =
       ap (λ b. cond b (Some number)
-      (least_line (test source base) (number + 1) (map line_item (source_lines l.rest.now)))) (sym t) ∙ free_here
+      (least_line (is_position_dependent source base) (number + 1) (map line_item (source_lines l.rest.now)))) (sym t)
+      ∙ free_here
 
   count_here : place + length (cond (has_insn item_here)
       (f.line ∷ filter has_word (source_lines l.rest.now)) (filter has_word (source_lines l.rest.now)))
@@ -254,9 +262,9 @@ module _ (source cuts : List ℕ) (words base : ℕ) (rest text left : List ℕ)
         size = omega arith;
       }
 
-empty_list : (xs : List ℕ) → length xs ≡ 0 → xs ≡ []
-empty_list [] h = refl
-empty_list (x ∷ xs) h = absurd (omega arith)
+empty-from_length : (xs : List ℕ) → length xs ≡ 0 → xs ≡ []
+empty-from_length [] h = refl
+empty-from_length (x ∷ xs) h = absurd (omega arith)
 
 pub ends_whole : (source cuts : List ℕ) (words base : ℕ) (rest text left : List ℕ) (number place : ℕ)
     → TextUnderway source cuts words base rest text left number place → length rest ≡ 0
@@ -264,10 +272,10 @@ pub ends_whole : (source cuts : List ℕ) (words base : ℕ) (rest text left : L
 ends_whole source cuts words base rest text left number place u h =
     sym (append-nil text)
     ∙ (ap (λ (r : List ℕ). text ++ flat_map line_bytes (fixed_lines (is_cut cuts) words place (source_lines r)))
-    (sym (empty_list rest h)) ∙ u.whole)
+    (sym (empty-from_length rest h)) ∙ u.whole)
 
 pub ends_free : (source cuts : List ℕ) (words base : ℕ) (rest text left : List ℕ) (number place : ℕ)
     → TextUnderway source cuts words base rest text left number place → length rest ≡ 0 → fixed_line source ≡ None
 ends_free source cuts words base rest text left number place u h =
-    sym (ap (λ (r : List ℕ). least_line (test source base) number (map line_item (source_lines r)))
-    (sym (empty_list rest h)) ∙ u.free)
+    sym (ap (λ (r : List ℕ). least_line (is_position_dependent source base) number (map line_item (source_lines r)))
+    (sym (empty-from_length rest h)) ∙ u.free)

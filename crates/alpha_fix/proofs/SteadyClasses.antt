@@ -14,7 +14,7 @@ use Rattle.alpha_table.proofs.Classes.{class_at-decoded}
 use Rattle.alpha_shadow.specs.declared.broken.Condition.{Condition}
 use Rattle.alpha_shadow.specs.Broken.{IsBroken, IsAccepted}
 use Rattle.alpha_fix.specs.Cuts.{BreaksAbove, AreCutsAbove, HasBroken}
-use Rattle.alpha_fix.proofs.Alike.{LooksAlike, broken_along}
+use Rattle.alpha_fix.proofs.StretchesAlike.{LooksAlike, broken_along}
 
 abbrev pub steady : Class → Class
 steady (operate op ra src rc) = operate op ra src rc
@@ -88,17 +88,17 @@ alike_columns a b e =
     }
 
 -- the class at a place, from the word there
-here : (o : Option ℕ)
+steady-word_class : (o : Option ℕ)
     → option_map steady (option_map class_of (option_and_then decoded o))
     ≡ option_and_then (λ c. c) (option_map word_class o)
-here None = refl
-here (Some w) = refl
+steady-word_class None = refl
+steady-word_class (Some w) = refl
 
 class_here : (code : List ℕ) (k : ℕ)
     → option_map steady (class_at code k) ≡ option_and_then (λ c. c) (slice_get (map word_class code) k)
 class_here code k =
     ap (option_map steady) (class_at-decoded code k)
-    ∙ (here (slice_get code k) ∙ ap (option_and_then (λ c. c)) (sym (slice_get-map word_class code k)))
+    ∙ (steady-word_class (slice_get code k) ∙ ap (option_and_then (λ c. c)) (sym (slice_get-map word_class code k)))
 
 looks_alike : (code other : List ℕ) (k : ℕ) → AreAlike code other → LooksAlike code k other k
 looks_alike code other k e =

@@ -13,7 +13,7 @@ use Rattle.alpha_table.specs.Decoded.{decoded}
 use Rattle.alpha_table.specs.Encoded.{encoded}
 use Rattle.alpha_table.specs.Columns.{level_of}
 use Rattle.alpha_table.proofs.DecodedInsns.{decoded-Row, Row-decoded, Row-one_word, IsInsn-Row}
-use Rattle.alpha_table.proofs.Words.{encoded-Row}
+use Rattle.alpha_table.proofs.InsnWords.{encoded-Row}
 use Rattle.alpha_table.proofs.Levels.{level_in-decoded}
 use Rattle.alpha_image.specs.Parts.{IsWithin, IsCodeWord}
 use Rattle.alpha_image.specs.Insns.{IsCodeInsn}

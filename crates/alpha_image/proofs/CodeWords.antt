@@ -21,8 +21,9 @@ use Rattle.alpha_image.specs.Layout.{longword}
 use Rattle.alpha_image.specs.Reading.{words_of, longword_at}
 use Rattle.alpha_words.specs.Levels.{level_number}
 use Rattle.alpha_image.specs.Parts.{IsCodeWord, IsWithin}
-use Rattle.alpha_image.proofs.Numbers.{IsBytes, longword_at-lt, IsBytes-take, longword-longword_at, longword_at-front}
-use Rattle.alpha_image.proofs.Numbers.{length-longword}
+use Rattle.alpha_image.proofs.LittleEndianNumbers.{IsBytes, longword_at-lt, IsBytes-take, longword-longword_at}
+use Rattle.alpha_image.proofs.LittleEndianNumbers.{longword_at-front}
+use Rattle.alpha_image.proofs.LittleEndianNumbers.{length-longword}
 use Rattle.alpha_image.specs.ImageFault.{is_there, bad_place, word_fault}
 
 pub length-words_of : (bytes : List ℕ) → length (words_of bytes) ≡ length bytes / 4

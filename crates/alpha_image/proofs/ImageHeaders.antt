@@ -15,8 +15,9 @@ use Rattle.alpha_image.specs.Reading.{numbers_in}
 use Rattle.alpha_image.specs.Rules.{FieldsFit, size_of_segment}
 use Rattle.alpha_image.specs.TestsDecide.{LevelFits}
 use Rattle.alpha_image.specs.Parts.{SuitsVersion}
-use Rattle.alpha_image.proofs.Numbers.{IsBytes, IsBytes-drop, quadword_at-front, longword_at-front, drop-quadword}
-use Rattle.alpha_image.proofs.Numbers.{drop-longword}
+use Rattle.alpha_image.proofs.LittleEndianNumbers.{IsBytes, IsBytes-drop, quadword_at-front, longword_at-front}
+use Rattle.alpha_image.proofs.LittleEndianNumbers.{drop-quadword}
+use Rattle.alpha_image.proofs.LittleEndianNumbers.{drop-longword}
 use Rattle.alpha_image.proofs.SegmentLists.{length-segments_in}
 
 abbrev pub EndsFit : Segment → Type 0
@@ -74,10 +75,10 @@ says_first n rest fit ends =
       stack = longword_at-front t 44 n.stack _ refl (omega (arith, fit.stack));
     }
 
-single : (segments : List Segment) → length segments ≡ 1 → first_segment segments ∷ [] ≡ segments
-single [] e = absurd (omega arith)
-single (s ∷ []) e = refl
-single (s ∷ t ∷ rest) e = absurd (omega arith)
+first_segment-alone : (segments : List Segment) → length segments ≡ 1 → first_segment segments ∷ [] ≡ segments
+first_segment-alone [] e = absurd (omega arith)
+first_segment-alone (s ∷ []) e = refl
+first_segment-alone (s ∷ t ∷ rest) e = absurd (omega arith)
 
 first_ends : (segments : List Segment) → All EndsFit segments → EndsFit (first_segment segments)
 first_ends [] fits = omega arith
@@ -108,7 +109,7 @@ numbers_in-first n rest fit suits =
     let says = says_first n rest fit (first_ends n.segments fit.zeroed.1) in
     let segment = same_segment (first_segment n.segments) _ _ _ says.base says.filled says.zeroed in
     same_numbers n _ _ _ _ _ _ (sym suits.0) says.code_base says.entry says.words says.stack
-    (ap (λ (s : Segment). s ∷ []) segment ∙ single n.segments suits.1)
+    (ap (λ (s : Segment). s ∷ []) segment ∙ first_segment-alone n.segments suits.1)
 
 -- what bytes of the second version say, if they say these numbers
 record SaysLevel (n : Numbers) (t : List ℕ) : Type 0 where

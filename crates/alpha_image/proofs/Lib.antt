@@ -1,12 +1,12 @@
 pub mod OfFile
-pub mod Numbers
+pub mod LittleEndianNumbers
 pub mod FieldRules
-pub mod Apart
+pub mod SegmentsApart
 pub mod SegmentLists
 pub mod CodeWords
 pub mod CodeInsns
 pub mod ImageHeaders
 pub mod Spelled
-pub mod Form
-pub mod Pieces
-pub mod Places
+pub mod ReadSpelling
+pub mod SegmentShares
+pub mod CodePlaces

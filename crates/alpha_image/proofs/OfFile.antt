@@ -13,10 +13,11 @@ use Rattle.alpha_image.specs.Rules.{FieldsFit}
 use Rattle.alpha_image.specs.Parts.{IsImage, numbers}
 use Rattle.alpha_image.specs.PartsOf.{HasForm, parts_with, parts_of}
 use Rattle.alpha_image.specs.ImageFault.{word_fault}
-use Rattle.alpha_image.proofs.Numbers.{IsBytes}
+use Rattle.alpha_image.proofs.LittleEndianNumbers.{IsBytes}
 use Rattle.alpha_image.proofs.CodeInsns.{words_of_insns}
-use Rattle.alpha_image.proofs.Form.{IsImage-first_fault, length-words_in, numbers-parts_with, code_in, cut_behind}
-use Rattle.alpha_image.proofs.Form.{parts_with-cut}
+use Rattle.alpha_image.proofs.ReadSpelling.{IsImage-first_fault, length-words_in, numbers-parts_with, code_in}
+use Rattle.alpha_image.proofs.ReadSpelling.{cut_behind}
+use Rattle.alpha_image.proofs.ReadSpelling.{parts_with-cut}
 
 -- what stands behind two sizes is what the bytes end with
 data_at_end : (bytes : List ℕ) (size k : ℕ) (rest : List ℕ) → size + k ≤ length bytes

@@ -99,7 +99,7 @@ impl Image {
             version,
             fields: *fields,
             words: insns.len() as u64,
-            segments: few(segments),
+            segments: segment_array(segments),
         };
         Image::of_parts(header, insns, bytes)
     }
@@ -135,13 +135,13 @@ fn build(
         version,
         fields: *fields,
         words,
-        segments: few(segments),
+        segments: segment_array(segments),
     };
-    Image::checked(alloc, header, code, bytes)
+    Image::build_from_bytes(alloc, header, code, bytes)
 }
 
 // At most eight segments, without memory.
-fn few(segments: &[Segment]) -> ArrayVec<Segment, MOST_SEGMENTS>
+fn segment_array(segments: &[Segment]) -> ArrayVec<Segment, MOST_SEGMENTS>
     requires { length segments.now ≤ 8 }
     ensures value { result.items ≡ segments.now }
 {

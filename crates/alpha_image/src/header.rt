@@ -11,7 +11,7 @@ ghost use Rattle.alpha_image.specs.ImageFault.{image_header_fault};
 ghost use Rattle.alpha_image.specs.Tells.{Tells};
 
 use crate::number::{longword_at, quadword_at};
-use crate::segment::{MOST_SEGMENTS, filled, read_segments};
+use crate::segment::{MOST_SEGMENTS, data_size, read_segments};
 use crate::{ImageFault, LevelFields, Segment, Version};
 use alpha_words::Level;
 use arrayvec::ArrayVec;
@@ -137,16 +137,16 @@ impl Header {
         requires { FieldsFit (header_numbers self.now) }
         ensures value { result ≡ size_of self.now.version (header_numbers self.now) }
     {
-        self.front_size() as u64 + 4 * self.words + filled(&self.segments)
+        self.front_size() as u64 + 4 * self.words + data_size(&self.segments)
     }
 
     /// How many data bytes the segments before one have.
-    pub fn filled_before(&self, n: usize) -> usize
+    pub fn data_size_before(&self, n: usize) -> usize
         requires fits { FieldsFit (header_numbers self.now) }
         requires there { n < length self.now.segments.items }
         ensures value { result ≡ filled_size (take n self.now.segments.items) }
     {
-        filled(&self.segments[..n]) as usize
+        data_size(&self.segments[..n]) as usize
     }
 
     /// Which instructions the code may have.

@@ -142,7 +142,7 @@ impl Image {
         ensures good { IsImage self.now }
     {
         let segment = self.segment(n)?;
-        let before = self.header.filled_before(n as usize);
+        let before = self.header.data_size_before(n as usize);
         let (_, behind) = self.data_bytes().split_at(before);
         let (bytes, _) = behind.split_at(segment.filled as usize);
         Some(bytes)
@@ -231,7 +231,7 @@ impl Image {
 
     /// The image with this header, these code bytes and these data bytes, if each code word is in the
     /// instruction table at the header's level.
-    pub(crate) fn checked(
+    pub(crate) fn build_from_bytes(
         alloc: Global,
         header: Header,
         code: &[u8],

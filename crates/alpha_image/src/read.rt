@@ -9,13 +9,13 @@ ghost use Rattle.alpha_image.specs.ImageFault.{form_fault, first_fault};
 ghost use Rattle.alpha_image.specs.Tells.{Tells};
 
 use crate::header::Header;
-use crate::segment::filled;
+use crate::segment::data_size;
 use crate::{Image, ImageFault};
 use std::alloc::Global;
 
 // The header of bytes that are an image but for its code words.
 #[tactic(auto, unfolding(crate::specs::ImageFault::form_fault, crate::specs::ImageFault::field_fault))]
-fn checked_header(bytes: &[u8]) -> Result<Header, ImageFault>
+fn check_header(bytes: &[u8]) -> Result<Header, ImageFault>
     ensures fault { Tells result (form_fault bytes.now) }
     ensures memory { IfErr result (λ e. e ≢ ImageFault.NoMemory) }
     ensures version { IfOk result (λ h. h.version ≡ version_of bytes.now) }
@@ -44,9 +44,9 @@ pub fn read_image(alloc: Global, bytes: &[u8]) -> Result<Image, ImageFault>
     ensures spelled { IfOk result (λ image. bytes.now ≡ image_spelling image) }
     ensures fault { Tells result (first_fault bytes.now) }
 {
-    let header = checked_header(bytes)?;
+    let header = check_header(bytes)?;
     let (code, data) = bytes[header.front_size()..].split_at(4 * header.words as usize);
-    Image::checked(alloc, header, code, data)
+    Image::build_from_bytes(alloc, header, code, data)
 }
 
 /// The image that the bytes spell, as [`read_image`] answers it. Where more than half of the bytes are data,
@@ -61,8 +61,8 @@ pub fn take_image(alloc: Global, bytes: Vec<u8>) -> Result<Image, ImageFault>
     ensures spelled { IfOk result (λ image. bytes.items ≡ image_spelling image) }
     ensures fault { Tells result (first_fault bytes.items) }
 {
-    let header = checked_header(bytes.as_slice())?;
-    if filled(&header.segments) <= bytes.len() as u64 / 2 {
+    let header = check_header(bytes.as_slice())?;
+    if data_size(&header.segments) <= bytes.len() as u64 / 2 {
         return read_image(alloc, bytes.as_slice());
     }
     Image::of_file(alloc, header, bytes)

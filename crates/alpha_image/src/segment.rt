@@ -63,7 +63,7 @@ pub(crate) fn read_segments(bytes: &[u8], count: usize) -> ArrayVec<Segment, MOS
 }
 
 /// How many data bytes the segments have.
-pub(crate) fn filled(segments: &[Segment]) -> u64
+pub(crate) fn data_size(segments: &[Segment]) -> u64
     requires { filled_size segments.now < 2 ^ 64 }
     ensures value { result ≡ filled_size segments.now }
 {

@@ -9,7 +9,7 @@ use Rattle.alpha_trap.specs.Scan.{scan}
 use Rattle.alpha_values.specs.TrapOp.{stops}
 use Rattle.alpha_imprecise.specs.StepResult.{Trap, Precisely, Waited, Reported, StepResult, step_result}
 use Rattle.alpha_imprecise.specs.Step.{completed, landed, report, can_wait, waited, address_at, imprecise_step_at}
-use Rattle.alpha_imprecise.proofs.Landed.{report_at}
+use Rattle.alpha_imprecise.proofs.ReportLandings.{report_at}
 use Rattle.alpha_imprecise.specs.Run.{finished}
 use Rattle.alpha_imprecise.specs.Chosen.{most_waited, first_word, reporting, executing, must_report, chosen}
 use Rattle.alpha_imprecise.specs.ChosenRun.{ChosenRun, advance_chosen_run, is_settled, settled_within, chosen_run}

@@ -18,7 +18,7 @@ use Rattle.alpha_imprecise.specs.Step.{triggers, can_wait, unpredictable_state, 
 use Rattle.alpha_imprecise.specs.Step.{completed, address_at, imprecise_step_at, imprecise_step, triggered, precisely}
 use Rattle.alpha_imprecise.specs.Step.{waited, adds_here, destination}
 use Rattle.alpha_imprecise.specs.Run.{seen_of, choice_of, given_to, next_step_result}
-use Rattle.alpha_imprecise.proofs.Landed.{report_at}
+use Rattle.alpha_imprecise.proofs.ReportLandings.{report_at}
 
 abbrev pub asked_for : ImpreciseEvent → ℕ
 asked_for (Precisely event) = asked event
@@ -56,33 +56,36 @@ HasEffectiveChoice-nothing_pending g o s c false =
 
 -- ---- a report, which is the same by each choice to report
 
-reported : (f : Choice → StepResult) (c : Choice) (m : StepResult) → f c ≡ m
+HasEffectiveChoice-reported : (f : Choice → StepResult) (c : Choice) (m : StepResult) → f c ≡ m
     → ((d : Choice) → d.report ≡ true → f d ≡ m)
     → given_to m.last_event ≡ [] → asked_for m.last_event ≡ 0 → (choice_of m.last_event).report ≡ true
     → HasEffectiveChoice (λ d input. f d) c
-reported f c m here each gave asks reports =
+HasEffectiveChoice-reported f c m here each gave asks reports =
     HasEffectiveChoice-still f c (ap (λ (n : StepResult). given_to n.last_event) here ∙ gave)
     (ap (λ (n : StepResult). asked_for n.last_event) here ∙ asks)
     (ap (λ (n : StepResult). f (choice_of n.last_event)) here ∙ (each (choice_of m.last_event) reports ∙ sym here))
 
-abbrev lands : Program → State → ℕ → Bool → StepResult
-lands g s at b =
+abbrev landing_result : Program → State → ℕ → Bool → StepResult
+landing_result g s at b =
     cond b
     (step_result (record s { pc = address_at g.image at }) None
     (Precisely (Ends (ends.Overflow (address_at g.image at)))))
     (step_result (completed g s at) None (Reported (address_at g.image at)))
 
-landing : (g : Program) (s : State) (at : ℕ) (c : Choice) (f : Choice → StepResult) (b : Bool) → f c ≡ lands g s at b
-    → ((d : Choice) → d.report ≡ true → f d ≡ lands g s at b)
+HasEffectiveChoice-landing : (g : Program) (s : State) (at : ℕ) (c : Choice) (f : Choice → StepResult) (b : Bool)
+    → f c ≡ landing_result g s at b
+    → ((d : Choice) → d.report ≡ true → f d ≡ landing_result g s at b)
     → HasEffectiveChoice (λ d input. f d) c
-landing g s at c f true here each = reported f c (lands g s at true) here each refl refl refl
-landing g s at c f false here each = reported f c (lands g s at false) here each refl refl refl
+HasEffectiveChoice-landing g s at c f true here each =
+    HasEffectiveChoice-reported f c (landing_result g s at true) here each refl refl refl
+HasEffectiveChoice-landing g s at c f false here each =
+    HasEffectiveChoice-reported f c (landing_result g s at false) here each refl refl refl
 
 reporting : (g : Program) (s : State) (t : Trap) (c : Choice) (f : Choice → StepResult) (found : Option ℕ)
     → f c ≡ report_at g s t found → ((d : Choice) → d.report ≡ true → f d ≡ report_at g s t found)
     → HasEffectiveChoice (λ d input. f d) c
-reporting g s t c f None here each = reported f c (report_at g s t None) here each refl refl refl
-reporting g s t c f (Some at) here each = landing g s at c f (stops g.completion) here each
+reporting g s t c f None here each = HasEffectiveChoice-reported f c (report_at g s t None) here each refl refl refl
+reporting g s t c f (Some at) here each = HasEffectiveChoice-landing g s at c f (stops g.completion) here each
 
 -- ---- a word that waits
 
@@ -138,15 +141,15 @@ HasEffectiveChoice-waited o s t c =
 
 -- ---- the step
 
-pending : (g : Program) (o : Option Class) (s : State) (t : Trap) (c : Choice) (b : Bool)
+HasEffectiveChoice-pending : (g : Program) (o : Option Class) (s : State) (t : Trap) (c : Choice) (b : Bool)
     → (c.report || not (can_wait o s)) ≡ b
     → HasEffectiveChoice (λ d input. cond (d.report || not (can_wait o s)) (report g s t) (waited o s t d)) c
-pending g o s t c true here =
+HasEffectiveChoice-pending g o s t c true here =
     reporting g s t c (λ d. cond (d.report || not (can_wait o s)) (report g s t) (waited o s t d))
     (scan g.image s.pc t.mask)
     (ap (λ b. cond b (report g s t) (waited o s t c)) here)
     (λ d reports. ap (λ b. cond (b || not (can_wait o s)) (report g s t) (waited o s t d)) reports)
-pending g o s t c false here =
+HasEffectiveChoice-pending g o s t c false here =
     let f : Choice → StepResult = λ d. cond (d.report || not (can_wait o s)) (report g s t) (waited o s t d) in
     let is : f c ≡ waited o s t c = ap (λ b. cond b (report g s t) (waited o s t c)) here in
     let again : f (effective_choice o c) ≡ waited o s t (effective_choice o c) = ap
@@ -162,7 +165,8 @@ pending g o s t c false here =
 imprecise_step_at-HasEffectiveChoice : (g : Program) (o : Option Class) (s : State) (p : Option Trap) (c : Choice)
     → HasEffectiveChoice (imprecise_step_at g o s p) c
 imprecise_step_at-HasEffectiveChoice g o s None c = HasEffectiveChoice-nothing_pending g o s c (triggers o s)
-imprecise_step_at-HasEffectiveChoice g o s (Some t) c = pending g o s t c (c.report || not (can_wait o s)) refl
+imprecise_step_at-HasEffectiveChoice g o s (Some t) c =
+    HasEffectiveChoice-pending g o s t c (c.report || not (can_wait o s)) refl
 
 pub imprecise_step-HasEffectiveChoice : (g : Program) (s : State) (p : Option Trap) (c : Choice)
     → HasEffectiveChoice (imprecise_step g s p) c

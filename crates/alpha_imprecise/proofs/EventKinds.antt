@@ -22,7 +22,7 @@ use Rattle.alpha_imprecise.specs.Chosen.{most_waited, must_report}
 use Rattle.alpha_imprecise.specs.ImpreciseState.{ImpreciseState, trap_of, trap_in}
 use Rattle.alpha_imprecise.specs.ImpreciseStepEffect.{shown_as, ImpreciseStepBy}
 use Rattle.alpha_imprecise.proofs.ChoicesMade.{is_quiet, step-is_quiet}
-use Rattle.alpha_imprecise.proofs.Landed.{report_at}
+use Rattle.alpha_imprecise.proofs.ReportLandings.{report_at}
 
 -- a step with nothing pending that doesn't overflow
 abbrev pub is_precise : SeenEvent → Bool
@@ -123,9 +123,9 @@ reported-event choice old new p trap stepped some chosen =
     ap is_report (stepped.event ∙ ap (shown_as stepped.passed) went) ∙ reports-shown g s t stepped.passed
 
 -- where no report is forced the word can be executed
-can-wait : (a b : Bool) → (not a || b) ≡ false → a ≡ true
-can-wait true b e = refl
-can-wait false b e = sym e
+not_or-false : (a b : Bool) → (not a || b) ≡ false → a ≡ true
+not_or-false true b e = refl
+not_or-false false b e = sym e
 
 pub waited-event : (choice : Choice) (old new : ImpreciseState) (p : StepLabel) (trap : Pending)
     → ImpreciseStepBy choice old p new → old.pending ≡ Some trap
@@ -137,7 +137,7 @@ waited-event choice old new p trap stepped some chosen may =
     let o = class_here old.machine in
     let s = state_of old.machine in
     let t = trap_of trap in
-    let can : can_wait o s ≡ true = can-wait (can_wait o s) (nat_le most_waited trap.waited) may in
+    let can : can_wait o s ≡ true = not_or-false (can_wait o s) (nat_le most_waited trap.waited) may in
     let went : stepped.last_event ≡ Waited (choice.adds && adds_here o) choice.value choice.bytes =
     happened_by choice old new p stepped (Some trap) some
     ∙ (ap (λ (b : Bool). (cond (b || not (can_wait o s)) (report g s t) (waited o s t choice)).last_event) chosen

@@ -1,11 +1,11 @@
-pub mod Landed
+pub mod ReportLandings
 mod Examples
 pub mod NextInsns
 pub mod Reports
 pub mod Masks
 pub mod ChoicesMade
 pub mod RunConcatenation
-pub mod ByWords
+pub mod StepsByWords
 pub mod ChoiceRequests
 pub mod EventKinds
 pub mod ShorterRuns
@@ -13,12 +13,12 @@ pub mod ChosenRuns
 pub mod PendingTraps
 pub mod OracleLaws
 pub mod EffectiveChoices
-pub mod Sequence
+pub mod ImpreciseSequence
 pub mod WordDraws
 pub mod StepBounds
 pub mod EventCounts
 pub mod ShownRuns
-pub mod Fresh
-pub mod Exactly
-pub mod Drawn
+pub mod FreshRuns
+pub mod ExactDraws
+pub mod DrawnRuns
 pub mod ImpreciseFastStepLaws

@@ -36,8 +36,8 @@ insn_while_pending (Overflows i) = Some i
 insn_while_pending (Plain i) = Some i
 
 -- the same, by whether it can be
-abbrev if_it : Bool → Form → Option Form
-if_it b i = cond b (Some i) None
+abbrev form_if : Bool → Form → Option Form
+form_if b i = cond b (Some i) None
 
 insn_while_pending-overflowed : (completion : Completion) (s : State) (rc v : ℕ) (i : Form)
     → insn_while_pending (by_event i (overflowed completion s rc v).event) ≡ Some i
@@ -51,13 +51,13 @@ insn_while_pending-trap true x y i p q = p
 insn_while_pending-trap false x y i p q = q
 
 insn_while_pending-unless : (fault : Option MemFault) (addr : ℕ) (s after : State) (i : Form)
-    → insn_while_pending (by_event i (unless fault addr s after).event) ≡ if_it (is_none fault) i
+    → insn_while_pending (by_event i (unless fault addr s after).event) ≡ form_if (is_none fault) i
 insn_while_pending-unless None addr s after i = refl
 insn_while_pending-unless (Some Align) addr s after i = refl
 insn_while_pending-unless (Some Region) addr s after i = refl
 
 insn_while_pending-class : (g : Program) (class : Class) (i : Form) (s : State)
-    → insn_while_pending (by_class class i (step g (Some class) s []).event) ≡ if_it (can_wait (Some class) s) i
+    → insn_while_pending (by_class class i (step g (Some class) s []).event) ≡ form_if (can_wait (Some class) s) i
 insn_while_pending-class g (operate op ra src rc) i s = refl
 insn_while_pending-class g (trigger op ra src rc) i s =
     insn_while_pending-trap (overflow_of op (reg s.regs ra) (source_value s.regs src)) _ _ i
@@ -78,7 +78,7 @@ insn_while_pending-class g idle i s = refl
 
 -- by the instruction at the PC
 abbrev waiting_insn : Machine → Option Form → Option Form
-waiting_insn m x = option_and_then (λ i. if_it (can_wait (Some (class_of i)) (state_of m)) i) x
+waiting_insn m x = option_and_then (λ i. form_if (can_wait (Some (class_of i)) (state_of m)) i) x
 
 insn_while_pending-by : (m : Machine) (x : Option Form)
     → insn_while_pending (next_by (program_of m) x (state_of m) []) ≡ waiting_insn m x
@@ -90,7 +90,7 @@ pub insn_while_pending-next : (m : Machine)
 insn_while_pending-next m = insn_while_pending-by m (next_insn (program_of m) m.pc)
 
 some_by : (m : Machine) (i insn : Form) (b : Bool) → class_here m ≡ Some (class_of i)
-    → can_wait (Some (class_of i)) (state_of m) ≡ b → if_it b i ≡ Some insn → WaitsAt m (class_of insn)
+    → can_wait (Some (class_of i)) (state_of m) ≡ b → form_if b i ≡ Some insn → WaitsAt m (class_of insn)
 some_by m i insn true here waits e =
     let same : i ≡ insn = cc in
     record {
@@ -104,7 +104,7 @@ some_insn : (m : Machine) (x : Option Form) (insn : Form) → class_here m ≡ o
 some_insn m None insn here e = absurd cc
 some_insn m (Some i) insn here e = some_by m i insn (can_wait (Some (class_of i)) (state_of m)) here refl e
 
-none_by : (m : Machine) (i : Form) (b : Bool) → can_wait (Some (class_of i)) (state_of m) ≡ b → if_it b i ≡ None
+none_by : (m : Machine) (i : Form) (b : Bool) → can_wait (Some (class_of i)) (state_of m) ≡ b → form_if b i ≡ None
     → can_wait (Some (class_of i)) (state_of m) ≡ false
 none_by m i true waits e = absurd cc
 none_by m i false waits e = waits

@@ -20,7 +20,7 @@ use Rattle.alpha_trap.specs.Completed.{completed_regs}
 use Rattle.alpha_trap.proofs.HandlerEffect.{mask_in-entry, handled-entry}
 use Rattle.alpha_imprecise.specs.StepResult.{Trap, StepResult, Precisely, Reported, Lost as IsLost, step_result}
 use Rattle.alpha_imprecise.specs.Step.{address_at, completed}
-use Rattle.alpha_imprecise.proofs.Landed.{report_at}
+use Rattle.alpha_imprecise.proofs.ReportLandings.{report_at}
 use Rattle.alpha_imprecise.specs.declared.pending.Pending.{Pending}
 use Rattle.alpha_imprecise.specs.Chosen.{reporting}
 use Rattle.alpha_imprecise.specs.ImpreciseState.{imprecise_state, trap_of, returned_kernel}
@@ -98,8 +98,8 @@ goes_far image completion pc mask regs h found e =
 abbrev handled_machine : Machine → Handled → Machine
 handled_machine m h = record m { regs = h.regs; kernel = returned_kernel h.pc h.regs }
 
-abbrev stopped : Machine → State → ℕ → StepResult
-stopped m s at =
+abbrev stopped_on_overflow : Machine → State → ℕ → StepResult
+stopped_on_overflow m s at =
     step_result (record s { pc = address_at m.image at }) None
     (Precisely (Ends (ends.Overflow (address_at m.image at))))
 
@@ -110,7 +110,7 @@ landed_by m t h true stopping found =
     let same = sym (stop_at m.image m.completion m.regs found.at stopping) ∙ found.is in
     record {
       is = ap (report_at (program_of m) (state_of m) t) found.scans
-          ∙ (ap (λ (b : Bool). cond b (stopped m (state_of m) found.at)
+          ∙ (ap (λ (b : Bool). cond b (stopped_on_overflow m (state_of m) found.at)
           (step_result (completed (program_of m) (state_of m) found.at) None (Reported (address_at m.image found.at))))
           stopping
           ∙ ap (λ (x : Handled). step_result (state_of (record m { regs = x.regs; pc = x.pc })) None
@@ -124,7 +124,7 @@ landed_by m t h false going found =
     let back : address_at m.image found.at + 4 - 4 ≡ address_at m.image found.at = omega arith in
     record {
       is = ap (report_at (program_of m) (state_of m) t) found.scans
-          ∙ (ap (λ (b : Bool). cond b (stopped m (state_of m) found.at)
+          ∙ (ap (λ (b : Bool). cond b (stopped_on_overflow m (state_of m) found.at)
           (step_result (completed (program_of m) (state_of m) found.at) None (Reported (address_at m.image found.at))))
           going
           ∙ (ap (λ (n : ℕ).

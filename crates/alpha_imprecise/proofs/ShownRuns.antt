@@ -8,7 +8,7 @@ use Rattle.alpha_seq.specs.Start.{start}
 use Rattle.alpha_seq.specs.Run.{Run, begins, after, is_over, end_of, output, notes, shown, Runs}
 use Rattle.alpha_seq.specs.Fronts.{HasMade}
 use Rattle.alpha_seq.proofs.RunsOverInput.{after-over}
-use Rattle.alpha_seq.proofs.Sequence.{fed-after}
+use Rattle.alpha_seq.proofs.RunSequence.{fed-after}
 use Rattle.alpha_imprecise.specs.StepResult.{ImpreciseEvent, Precisely, Triggered, Waited, Reported, Lost, StepResult}
 use Rattle.alpha_imprecise.specs.Run.{finished, seen, imprecise_start, RunsImprecisely, units, ImpreciseRun, RunsOver}
 use Rattle.alpha_imprecise.specs.Used.{HasUsed}
@@ -16,7 +16,7 @@ use Rattle.alpha_imprecise.specs.ChosenRun.{ChosenRun, begun, chosen_run, end_of
 use Rattle.alpha_imprecise.specs.ChosenRun.{shown_chosen_run}
 use Rattle.alpha_imprecise.specs.Restart.{Follows, Agrees, IsRestartable}
 use Rattle.alpha_imprecise.specs.Shown.{SameRun, ChoicesAlike, ShowsSame, RunsAlike}
-use Rattle.alpha_imprecise.proofs.Drawn.{chosen_run-over}
+use Rattle.alpha_imprecise.proofs.DrawnRuns.{chosen_run-over}
 use Rattle.alpha_imprecise.proofs.EventCounts.{pending_count, all_counted, RunsImprecisely-nothing_pending, last_event}
 use Rattle.alpha_imprecise.proofs.EventCounts.{run_last, seen_steps-last}
 use Rattle.alpha_imprecise.proofs.EventCounts.{run-not_finished}

@@ -28,7 +28,7 @@ pub(crate) fn overflow_of(machine: &Machine, insn: &Insn) -> Option<Overflow>
     ensures found { IfSome result (λ o. OverflowsAt machine.now o.place o.rc) }
     ensures none { IfNone result (triggers (class_here machine.now) (state_of machine.now) ≡ false) }
 {
-    let rc = overflowing(machine, insn)?;
+    let rc = overflow_destination(machine, insn)?;
     let place = machine.image.place_of(machine.pc)?;
     Some(Overflow { place, rc })
 }
@@ -37,7 +37,7 @@ pub(crate) fn overflow_of(machine: &Machine, insn: &Insn) -> Option<Overflow>
 // Handbook, arithmetic traps), which may be R31; `None` for one that doesn't overflow, and for any other
 // instruction.
 #[inline(always)]
-fn overflowing(machine: &Machine, insn: &Insn) -> Option<Reg>
+fn overflow_destination(machine: &Machine, insn: &Insn) -> Option<Reg>
     ensures found { IfSome result (λ rc. triggers (Some (class_of insn.now)) (state_of machine.now)
         ≡ true) }
     ensures into { IfSome result (λ rc. destination (Some (class_of insn.now)) ≡ rc) }

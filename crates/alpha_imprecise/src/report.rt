@@ -25,7 +25,7 @@ pub(crate) fn report(machine: &mut Machine, pending: &mut Option<Pending>, trap:
     ensures user { IsTrue machine.new.kernel.user }
     ensures bound { IfSome pending.new (λ p. p.waited ≤ 1024) }
 {
-    match handled(machine, trap.mask) {
+    match run_handler(machine, trap.mask) {
         Ok(pc) => {
             *pending = None;
             land(machine, pc)
@@ -52,7 +52,7 @@ fn land(machine: &mut Machine, pc: u64) -> Event
 
 // Enters the kernel with the PC and this mask, runs the handler, and returns to the user. The answer
 // is the PC to go on at.
-fn handled(machine: &mut Machine, mask: RegSet) -> Result<u64, Lost>
+fn run_handler(machine: &mut Machine, mask: RegSet) -> Result<u64, Lost>
     requires { IsTrue machine.old.kernel.user }
     ensures ok { IfOk result (λ pc.
         reported machine.old.image machine.old.completion machine.old.pc mask machine.old.regs

@@ -1,8 +1,8 @@
-pub mod Counts
+pub mod FaultCounts
 pub mod FileMaps
 pub mod FilePrefixes
 pub mod FileReplacementLaws
-pub mod Pieces
+pub mod FilePieces
 pub mod Puts
 pub mod ReadAnswers
 pub mod ShelfLaws

@@ -5,7 +5,7 @@ use Rattle.alpha_io.specs.declared.read.ReadFault.TheVariants.{Shelf, TooLarge, 
 use Rattle.alpha_io.specs.Faults.{Faulted, NoFault}
 use Rattle.alpha_io.specs.Files.{Files, Lacks}
 use Rattle.alpha_io.specs.ReadWhole.{ReadCause, Reading}
-use Rattle.alpha_io.proofs.Counts.{Faulted-not_NoFault}
+use Rattle.alpha_io.proofs.FaultCounts.{Faulted-not_NoFault}
 use Rattle.alpha_io.proofs.ShelfLaws.{Lacks-not_told}
 
 -- a name that isn't there

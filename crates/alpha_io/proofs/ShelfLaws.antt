@@ -39,14 +39,14 @@ Lacks-kept None (Some g) name p h = absurd p
 Lacks-kept (Some f) None name p h = absurd p
 Lacks-kept (Some f) (Some g) name p h = sym (p name) ∙ h
 
-absent : (o : Option (List ℕ)) (P : List ℕ → Type 0) → o ≡ None → IsSomeAnd o P → ⊥
-absent None P none h = h
-absent (Some file) P none h = cc
+IsSomeAnd-not_None : (o : Option (List ℕ)) (P : List ℕ → Type 0) → o ≡ None → IsSomeAnd o P → ⊥
+IsSomeAnd-not_None None P none h = h
+IsSomeAnd-not_None (Some file) P none h = cc
 
 -- a name that isn't there has no file
 pub Lacks-not_told : (a : Files) (name : List ℕ) (P : List ℕ → Type 0) → Lacks a name → IfTold a name P → ⊥
 Lacks-not_told None name P lacks h = lacks
-Lacks-not_told (Some g) name P lacks h = absent (g name) P lacks h
+Lacks-not_told (Some g) name P lacks h = IsSomeAnd-not_None (g name) P lacks h
 
 pub KeepsOtherFiles-after_kept : (a b c : Files) (name : List ℕ) → KeepsFiles a b → KeepsOtherFiles b c name
     → KeepsOtherFiles a c name

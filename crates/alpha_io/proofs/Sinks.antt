@@ -2,7 +2,7 @@
 use Rattle.std.proofs.Common.{ℕ, List, [], ◌++◌, Option, refl, ◌∙◌, arith}
 use Rattle.std.proofs.KnownBytes.{Appends-nil, Appends-trans, Keeps-refl}
 use Rattle.alpha_io.specs.SinkChange.{SinkChange, Puts, WritesPartly, HasFailed, HasNoFault}
-use Rattle.alpha_io.proofs.Counts.{Faulted-not_NoFault}
+use Rattle.alpha_io.proofs.FaultCounts.{Faulted-not_NoFault}
 use Rattle.alpha_io.proofs.Writes.{WritesPrefix-none, WritesPrefix-all, WritesPrefix-after, WritesPrefix-more}
 
 -- a sink that was not called

@@ -1,7 +1,7 @@
 // A new file beside the one whose name it is to take.
 
 use crate::Failed;
-use crate::place::{Name, pushed};
+use crate::place::{Name, push_text};
 use crate::replace::NewFile;
 use itoa::Buffer;
 use std::fs::{FileTimes, Metadata, OpenFile, OpenOptions};
@@ -79,11 +79,11 @@ impl<R: Files> NewFile for Beside<'_, R> {
     ghost calls = { λ _. None };
 
     fn write(&mut self, bytes: &[u8]) -> Result<(), Failed> {
-        done(self.file.write_all(bytes))
+        drop_error(self.file.write_all(bytes))
     }
 
     fn sync(&mut self) -> Result<(), Failed> {
-        done(OpenFile::sync_all(&self.file))
+        drop_error(OpenFile::sync_all(&self.file))
     }
 
     fn rename(&mut self) -> Result<(), Failed> {
@@ -95,7 +95,7 @@ impl<R: Files> NewFile for Beside<'_, R> {
                 _ => false,
             };
         }
-        done(answer)
+        drop_error(answer)
     }
 
     fn remove(&mut self) {
@@ -111,12 +111,12 @@ impl<R: Files> NewFile for Beside<'_, R> {
             Err(error)
                 if error.kind() == ErrorKind::InvalidInput
                     || error.kind() == ErrorKind::Unsupported => { Ok(()) }
-            answer => done(answer),
+            answer => drop_error(answer),
         }
     }
 }
 
-fn done(answer: io::Result<()>) -> Result<(), Failed> {
+fn drop_error(answer: io::Result<()>) -> Result<(), Failed> {
     match answer {
         Ok(()) => Ok(()),
         Err(_) => Err(Failed),
@@ -202,12 +202,12 @@ fn is_named<R: RandomSource>(files: &R, out: &str, path: &mut Name) -> io::Resul
     files.fill_bytes(&mut drawn)?;
     path.clear();
     let is_in_folder = match out.rsplit_once('/') {
-        Some((folder, _)) => pushed(path, folder) && pushed(path, "/"),
+        Some((folder, _)) => push_text(path, folder) && push_text(path, "/"),
         None => true,
     };
     Ok(
         is_in_folder
-            && pushed(path, ".alpha-keep-")
-            && pushed(path, Buffer::new().format(u64::from_le_bytes(drawn))),
+            && push_text(path, ".alpha-keep-")
+            && push_text(path, Buffer::new().format(u64::from_le_bytes(drawn))),
     )
 }

@@ -3,7 +3,7 @@ ghost use Rattle.std.specs.Io.{ReadsAtMost};
 ghost use Rattle.alpha_io.specs.Heard.{heard_nothing};
 
 use crate::again::read_again;
-use crate::fault::counted;
+use crate::fault::count_fault;
 use crate::history::History;
 use crate::keep::Keep;
 use crate::{Failed, Shelf};
@@ -70,7 +70,7 @@ impl<R: Files + RandomSource + AllocGlobal> DiskShelf<R> {
 
     /// The same for a program that writes to its streams around a keep. It refuses to write a file or a pipe in place
     /// that standard output or standard error goes to, since neither would have its bytes whole.
-    pub fn sparing_streams(files: R) -> DiskShelf<R>
+    pub fn with_stream_guard(files: R) -> DiskShelf<R>
         ensures { result ≡ heard_nothing }
     {
         DiskShelf {
@@ -127,8 +127,8 @@ impl<R: Files + RandomSource + AllocGlobal> Shelf for DiskShelf<R> {
     ghost faults = { λ s. s.faults };
 
     fn piece(&mut self, name: &str, at: u64, buf: &mut [u8]) -> Result<usize, Failed> {
-        let answer = counted(self.read_at(name, at, buf), &mut self.faults);
-        self.history.piece(name, at, answer, buf);
+        let answer = count_fault(self.read_at(name, at, buf), &mut self.faults);
+        self.history.note_piece(name, at, answer, buf);
         answer
     }
 
@@ -140,8 +140,8 @@ impl<R: Files + RandomSource + AllocGlobal> Shelf for DiskShelf<R> {
             bytes,
             spares_streams: self.spares_streams,
         };
-        let answer = counted(keep.run(), &mut self.faults);
-        self.history.kept(name, bytes, answer);
+        let answer = count_fault(keep.run(), &mut self.faults);
+        self.history.note_keep(name, bytes, answer);
         answer
     }
 }

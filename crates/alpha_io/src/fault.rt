@@ -11,7 +11,7 @@ pub(crate) fn next_count(count: u64) -> u64
 }
 
 // The answer of the system, whose error counts one fault.
-pub(crate) fn counted<T, E: Drop>(answer: Result<T, E>, faults: &mut u64) -> Result<T, Failed>
+pub(crate) fn count_fault<T, E: Drop>(answer: Result<T, E>, faults: &mut u64) -> Result<T, Failed>
     ensures value { IfOk result (λ value. answer ≡ Ok value) }
     ensures cause { HasCause faults.old faults.new result }
 {

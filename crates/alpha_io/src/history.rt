@@ -30,7 +30,7 @@ impl History {
     }
 
     /// Notes what a call of `piece` of a shelf answered, which filled the buffer.
-    pub(crate) fn piece(&mut self, name: &str, at: u64, answer: Result<usize, Failed>, buf: &[u8])
+    pub(crate) fn note_piece(&mut self, name: &str, at: u64, answer: Result<usize, Failed>, buf: &[u8])
         requires { ReadsAtMost answer buf.now }
         ensures { self.new.replies ≡ self.old.replies ++ piece_reply name.now at answer buf.now ∷ [] }
     {
@@ -41,7 +41,7 @@ impl History {
     }
 
     /// Notes what a call of `keep` of a shelf answered.
-    pub(crate) fn kept(&mut self, name: &str, bytes: &[u8], answer: Result<(), Failed>)
+    pub(crate) fn note_keep(&mut self, name: &str, bytes: &[u8], answer: Result<(), Failed>)
         ensures { self.new.replies ≡ self.old.replies ++ keep_reply name.now bytes.now answer ∷ [] }
     {
         match answer {
@@ -51,14 +51,14 @@ impl History {
     }
 
     /// Notes the bytes that a sink took by a call of `put`.
-    pub(crate) fn put(&mut self, bytes: &[u8])
+    pub(crate) fn note_put(&mut self, bytes: &[u8])
         ensures { self.new.replies ≡ self.old.replies ++ Put bytes.now ∷ [] }
     {
         self.note(&[2, 0, 1], &[], bytes);
     }
 
     /// Notes what a call of `take` of a source answered, which filled the buffer.
-    pub(crate) fn took(&mut self, answer: Result<usize, Failed>, buf: &[u8])
+    pub(crate) fn note_take(&mut self, answer: Result<usize, Failed>, buf: &[u8])
         requires { ReadsAtMost answer buf.now }
         ensures { self.new.replies ≡ self.old.replies ++ take_reply answer buf.now ∷ [] }
     {

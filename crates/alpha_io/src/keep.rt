@@ -63,7 +63,7 @@ impl<R: Files + RandomSource + AllocGlobal> Keep<'_, R> {
 
     // Whether the file was kept. It wasn't where another one took the name meanwhile.
     fn is_kept(&self) -> io::Result<bool> {
-        let old = self.old()?;
+        let old = self.open_existing()?;
         let found = match &old {
             Some(old) => Some(&old.found),
             None => None,
@@ -81,7 +81,7 @@ impl<R: Files + RandomSource + AllocGlobal> Keep<'_, R> {
 
     // The file that is there. One that may not be written is refused, though its folder would let it be replaced.
     #[inline(never)]
-    fn old(&self) -> io::Result<Option<Old<R::File>>> {
+    fn open_existing(&self) -> io::Result<Option<Old<R::File>>> {
         match OpenOptions::new().write(true).open(self.files, self.name) {
             Ok(file) => {
                 let found = OpenFile::metadata(&file)?;
@@ -128,7 +128,7 @@ impl<R: Files + RandomSource + AllocGlobal> Keep<'_, R> {
     fn write_in_place(&self, old: Option<Old<R::File>>) -> io::Result<()> {
         let Old { mut file, found } = match old {
             Some(old) => old,
-            None => self.created()?,
+            None => self.create()?,
         };
         if self.spares_streams && is_stream(self.files, &found) {
             return Err(Error::from(ErrorKind::ResourceBusy));
@@ -142,7 +142,7 @@ impl<R: Files + RandomSource + AllocGlobal> Keep<'_, R> {
     }
 
     // The file of the name, made by the system where it isn't there, as behind a link that leads to no file.
-    fn created(&self) -> io::Result<Old<R::File>> {
+    fn create(&self) -> io::Result<Old<R::File>> {
         let mut options = OpenOptions::new();
         let file = options
             .write(true)

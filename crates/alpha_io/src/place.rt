@@ -37,7 +37,7 @@ pub(crate) fn place_of<R: Files + AllocGlobal>(
     old: Option<&Metadata>,
     path: &mut Name,
 ) -> io::Result<Place> {
-    if old.is_some_and(|old| !old.is_file()) || !pushed(path, name) {
+    if old.is_some_and(|old| !old.is_file()) || !push_text(path, name) {
         return Ok(Place::Itself);
     }
     // The last turn sees what the last link leads to.
@@ -77,7 +77,7 @@ fn is_followed<R: Files + AllocGlobal>(files: &R, path: &mut Name) -> io::Result
         let kept = path.rfind('/').map_or(0, |at| at + 1);
         path.truncate(kept);
     }
-    Ok(pushed(path, text.as_str()))
+    Ok(push_text(path, text.as_str()))
 }
 
 // Whether a link stands for an open file, as those that /dev/stdout leads to: such a file is written in place, since
@@ -108,6 +108,6 @@ fn is_same(one: &Metadata, other: &Metadata) -> bool {
 }
 
 /// Appends a text to a name, where the name has room for all of it.
-pub(crate) fn pushed(name: &mut Name, text: &str) -> bool {
+pub(crate) fn push_text(name: &mut Name, text: &str) -> bool {
     name.try_push_str(text).is_ok()
 }

@@ -2,7 +2,7 @@ ghost use Rattle.std.specs.Prelude.{◌≡◌};
 ghost use Rattle.alpha_io.specs.Heard.{heard_nothing};
 
 use crate::again::{read_again, write_again};
-use crate::fault::{counted, next_count};
+use crate::fault::{count_fault, next_count};
 use crate::history::History;
 use crate::{Failed, Sink, Source};
 use std::io::{Read, Write};
@@ -53,8 +53,8 @@ impl<R: Read> Source for ReadSource<R> {
     ghost faults = { λ s. s.faults };
 
     fn take(&mut self, buf: &mut [u8]) -> Result<usize, Failed> {
-        let answer = counted(read_again(&mut self.reader, buf), &mut self.faults);
-        self.history.took(answer, buf);
+        let answer = count_fault(read_again(&mut self.reader, buf), &mut self.faults);
+        self.history.note_take(answer, buf);
         answer
     }
 }
@@ -105,7 +105,7 @@ impl<W: Write> Sink for WriteSink<W> {
     fn put(&mut self, bytes: &[u8]) -> Result<usize, Failed> {
         match write_again(&mut self.writer, bytes) {
             Ok(count) if count > 0 => {
-                self.history.put(&bytes[..count]);
+                self.history.note_put(&bytes[..count]);
                 Ok(count)
             }
             _ => {

@@ -22,7 +22,7 @@ use Rattle.alpha_link.specs.GlobalSymbols.{GlobalSymbol, global_symbol_of, globa
 use Rattle.alpha_link.specs.GlobalSymbols.{is_of}
 use Rattle.alpha_link.specs.GlobalSymbols.{address_at, AreEntered}
 use Rattle.alpha_link.proofs.NameAddresses.{first_append, take-next_module}
-use Rattle.alpha_link.proofs.Lists.{drop-get_or, none_left}
+use Rattle.alpha_link.proofs.LoopLists.{drop-get_or, drop-past_end}
 
 -- elements of two lists one behind the other
 pub get-used_symbols : {X : Type 0} (xs ys : List X) (k : ℕ) → k < length xs → slice_get (xs ++ ys) k ≡ slice_get xs k
@@ -119,15 +119,15 @@ first_there (s ∷ row) name a e = by (address_by name s) refl e (first_there ro
         let t = more f in
         record { at = suc t.at; symbol = t.symbol; here = t.here; gives = t.gives }
 
-abbrev Nothing : List GlobalSymbol → List ℕ → Type 0
-Nothing row name = (k : ℕ) (s : GlobalSymbol) → slice_get row k ≡ Some s → address_by name s ≡ None
+abbrev HasNoAddress : List GlobalSymbol → List ℕ → Type 0
+HasNoAddress row name = (k : ℕ) (s : GlobalSymbol) → slice_get row k ≡ Some s → address_by name s ≡ None
 
-first_none : (row : List GlobalSymbol) (name : List ℕ) → first (address_by name) row ≡ None → Nothing row name
+first_none : (row : List GlobalSymbol) (name : List ℕ) → first (address_by name) row ≡ None → HasNoAddress row name
 first_none [] name e = λ k s here. absurd (none-some s here)
 first_none (t ∷ row) name e = by (address_by name t) refl e (first_none row name)
   where
     by : (o : Option ℕ) → address_by name t ≡ o → option_or o (first (address_by name) row) ≡ None
-        → (first (address_by name) row ≡ None → Nothing row name) → Nothing (t ∷ row) name
+        → (first (address_by name) row ≡ None → HasNoAddress row name) → HasNoAddress (t ∷ row) name
     by (Some b) so f more = absurd (none-some b (sym f))
     by None so f more = λ k s here. at k s here
       where
@@ -158,9 +158,9 @@ is_defined_by row k s here defined =
     ap (λ (o : Option GlobalSymbol). option_map_or (defines s.name) o false) here
     ∙ (ap (λ (b : Bool). b && bytes_eq s.name s.name) defined ∙ (bytes_eq-Decides s.name s.name).1 refl)
 
-only : (row : List GlobalSymbol) (find : Finder) → AreEntered row find → (k : ℕ) (s : GlobalSymbol)
+IsOnly-entered : (row : List GlobalSymbol) (find : Finder) → AreEntered row find → (k : ℕ) (s : GlobalSymbol)
     → slice_get row k ≡ Some s → is_some s.address ≡ true → IsOnly k (is_of row s.name)
-only row find entered k s here defined = (
+IsOnly-entered row find entered k s here defined = (
   is_defined_by row k s here defined,
   λ other e. let d = defines_so row s.name other e in
       entered.single other k d.symbol s d.here here d.defined defined d.named,
@@ -169,7 +169,7 @@ only row find entered k s here defined = (
 number_of : (row : List GlobalSymbol) (find : Finder) → AreEntered row find → (k : ℕ) (s : GlobalSymbol)
     → slice_get row k ≡ Some s → is_some s.address ≡ true → find (is_of row s.name) s.name ≡ Some k
 number_of row find entered k s here defined =
-    entered.found k s here defined (is_of row s.name) (only row find entered k s here defined)
+    entered.found k s here defined (is_of row s.name) (IsOnly-entered row find entered k s here defined)
 
 if_some : (b : Bool) (o : Option ℕ) (a : ℕ) → (if b then o else None) ≡ Some a → (b ≡ true) × (o ≡ Some a)
 if_some true o a e = (refl, e)
@@ -247,10 +247,10 @@ enters_free row find e none entered = record {
       ];
 }
 
-absent : (row : List GlobalSymbol) (find : Finder) (name : List ℕ) → AreEntered row find
+AreEntered-not_found : (row : List GlobalSymbol) (find : Finder) (name : List ℕ) → AreEntered row find
     → find (is_of row name) name ≡ None → (k : ℕ) (s : GlobalSymbol) → slice_get row k ≡ Some s
     → is_some s.address ≡ true → s.name ≡ name → ⊥
-absent row find name entered none k s here defined same =
+AreEntered-not_found row find name entered none k s here defined same =
     none-some k
     (sym none ∙ (ap (λ (n : List ℕ). find (is_of row n) n) (sym same) ∙ number_of row find entered k s here defined))
 
@@ -264,17 +264,19 @@ enters_named row old new e number size none grows entered = record {
         | inl here ↦ elim (get_push row e k t at_k) [
           | inl there ↦ entered.single j k s t here there some_s some_t same
           | inr last ↦ absurd
-              (absent row old e.name entered none j s here some_s (same ∙ ap (λ (x : GlobalSymbol). x.name) last.1))
+              (AreEntered-not_found row old e.name entered none j s here some_s
+              (same ∙ ap (λ (x : GlobalSymbol). x.name) last.1))
         ]
         | inr last ↦ elim (get_push row e k t at_k) [
-          | inl there ↦ absurd (absent row old e.name entered none k t there some_t
+          | inl there ↦ absurd (AreEntered-not_found row old e.name entered none k t there some_t
               (sym same ∙ ap (λ (x : GlobalSymbol). x.name) last.1))
           | inr also ↦ last.0 ∙ sym also.0
         ]
       ];
   found = λ k s at_k some_s is_right only.
       elim (get_push row e k s at_k) [
-        | inl here ↦ grows.0 is_right s.name k (λ same. absent row old e.name entered none k s here some_s same)
+        | inl here ↦
+            grows.0 is_right s.name k (λ same. AreEntered-not_found row old e.name entered none k s here some_s same)
             (entered.found k s here some_s is_right only)
         | inr last ↦
             let at : k ≡ number = last.0 ∙ sym size in
@@ -463,7 +465,7 @@ past_get ls i l rest count whole within here size past e =
 pub end_get : (ls : List Located) (i rest : ℕ) (whole : Option GlobalSymbol) → length ls ≤ i
     → slice_get (global_symbols (drop i ls)) rest ≡ whole → whole ≡ None
 end_get ls i rest whole past e =
-    sym e ∙ ap (λ (x : List Located). slice_get (global_symbols x) rest) (none_left ls i past)
+    sym e ∙ ap (λ (x : List Located). slice_get (global_symbols x) rest) (drop-past_end ls i past)
 
 -- the symbol of a module with a number
 pub global_symbol-at : (l : Located) (i : ℕ) (s : Named) → slice_get l.parts.symbols i ≡ Some s

@@ -11,13 +11,14 @@ use Rattle.std.proofs.lemmas.Slice.Eq.{starts_is}
 use Rattle.std.proofs.lemmas.Bool.Decides.{Decides-eqb}
 use Rattle.alpha_image.specs.Layout.{longword}
 use Rattle.alpha_image.specs.Reading.{longword_at}
-use Rattle.alpha_image.proofs.Numbers.{IsBytes, IsBytes-drop, longword_at-lt, longword_at-front, drop-longword}
+use Rattle.alpha_image.proofs.LittleEndianNumbers.{IsBytes, IsBytes-drop, longword_at-lt, longword_at-front}
+use Rattle.alpha_image.proofs.LittleEndianNumbers.{drop-longword}
 use Rattle.alpha_link.specs.declared.fault.ModuleFault.{ModuleFault}
 use Rattle.alpha_link.specs.declared.fault.ModuleFault.TheVariants.{Header, Size}
 use Rattle.alpha_link.specs.declared.header.Sizes.{Sizes}
 use Rattle.alpha_link.specs.Reading.{Read}
 use Rattle.alpha_link.specs.Header.{magic, sizes_in, bad_size, sized, header_at, header_bytes}
-use Rattle.alpha_link.proofs.Results.{ok_of, unless_err, ok_pair}
+use Rattle.alpha_link.proofs.ReadingResults.{read_ok, unless_err, ok_pair}
 
 -- no size is too great, and each fits its bytes
 pub record AreSizes (z : Sizes) : Type 0 where
@@ -58,21 +59,22 @@ sizes_in-prefix bytes fits long =
     ∙ ap (λ (t : List ℕ). longword (longword_at 16 bytes) ++ t) (drop-longword bytes 20 24 fits (omega arith) refl
     ∙ ap (λ (t : List ℕ). longword (longword_at 20 bytes) ++ t) (drop-longword bytes 24 28 fits long refl))))
 
-five : (a b c d e f : List ℕ) → a ++ (b ++ (c ++ (d ++ (e ++ f)))) ≡ (a ++ (b ++ (c ++ (d ++ e)))) ++ f
-five a b c d e f = simp append_assoc
+append_assoc-five : (a b c d e f : List ℕ) → a ++ (b ++ (c ++ (d ++ (e ++ f)))) ≡ (a ++ (b ++ (c ++ (d ++ e)))) ++ f
+append_assoc-five a b c d e f = simp append_assoc
 
 header_front : (bytes : List ℕ) → IsBytes bytes → 28 ≤ length bytes → bytes ≡ magic ++ drop 8 bytes → front_is bytes
 unfolding header_bytes
 header_front bytes fits long begins =
     begins ∙ ap (λ (t : List ℕ). magic ++ t) (sizes_in-prefix bytes fits long
-    ∙ five (longword (longword_at 8 bytes)) (longword (longword_at 12 bytes)) (longword (longword_at 16 bytes))
+    ∙ append_assoc-five (longword (longword_at 8 bytes)) (longword (longword_at 12 bytes))
+    (longword (longword_at 16 bytes))
     (longword (longword_at 20 bytes)) (longword (longword_at 24 bytes)) (drop 28 bytes))
 
 -- neither test refuses
-neither : (a b : Bool) → (a || not b) ≡ false → (a ≡ false) × (b ≡ true)
-neither true b e = absurd cc
-neither false true e = (refl, refl)
-neither false false e = absurd cc
+or_not-false : (a b : Bool) → (a || not b) ≡ false → (a ≡ false) × (b ≡ true)
+or_not-false true b e = absurd cc
+or_not-false false true e = (refl, refl)
+or_not-false false false e = absurd cc
 
 pub header_takes : (bytes : List ℕ) (z : Sizes) (rest : List ℕ) → IsBytes bytes → header_at bytes ≡ Ok (z, rest)
     → AreSizes z × (bytes ≡ header_bytes z ++ rest) × IsBytes rest
@@ -80,7 +82,7 @@ unfolding header_at
 header_takes bytes z rest fits e =
     let a = unless_err (nat_lt (length bytes) 28 || not (starts_with nat_eq bytes magic)) Header
     (sized (sizes_in bytes) (drop 28 bytes)) (z, rest) e in
-    let b = neither (nat_lt (length bytes) 28) (starts_with nat_eq bytes magic) a.0 in
+    let b = or_not-false (nat_lt (length bytes) 28) (starts_with nat_eq bytes magic) a.0 in
     let long : 28 ≤ length bytes = ltb-false (length bytes) 28 b.0 in
     let c = sized_ok (sizes_in bytes) z (drop 28 bytes) rest (bad_size (sizes_in bytes)) refl a.1 in
     let sizes = no_bad_size (sizes_in bytes) c.0 in
@@ -120,11 +122,11 @@ length-header : (z : Sizes) → length (header_bytes z) ≡ 28
 unfolding header_bytes longword
 length-header z = refl
 
-passes : {X : Type 0} (a b : Bool) (d : ModuleFault) (r : Result X ModuleFault) → a ≡ false → b ≡ true
+cond-or_not : {X : Type 0} (a b : Bool) (d : ModuleFault) (r : Result X ModuleFault) → a ≡ false → b ≡ true
     → cond (a || not b) (Err d) r ≡ r
-passes false true d r p q = refl
-passes true b d r p q = absurd cc
-passes false false d r p q = absurd cc
+cond-or_not false true d r p q = refl
+cond-or_not true b d r p q = absurd cc
+cond-or_not false false d r p q = absurd cc
 
 pub header_again : (z : Sizes) (rest : List ℕ) → AreSizes z → header_at (header_bytes z ++ rest) ≡ Ok (z, rest)
 unfolding header_at
@@ -132,9 +134,9 @@ header_again z rest fit =
     let t = header_bytes z ++ rest in
     let long : nat_lt (length t) 28 ≡ false =
     le-ltb _ _ (omega (arith, length-append (header_bytes z) rest, length-header z)) in
-    passes (nat_lt (length t) 28) (starts_with nat_eq t magic) Header (sized (sizes_in t) (drop 28 t)) long
+    cond-or_not (nat_lt (length t) 28) (starts_with nat_eq t magic) Header (sized (sizes_in t) (drop 28 t)) long
     (magic_again z rest)
     ∙ (ap (λ (y : Sizes). sized y (drop 28 t)) (sizes_again z rest fit)
-    ∙ (ap (λ (o : Option ℕ). option_map_or (λ which. Err (Size which)) o (ok_of (z, drop 28 t)))
+    ∙ (ap (λ (o : Option ℕ). option_map_or (λ which. Err (Size which)) o (read_ok (z, drop 28 t)))
     (bad_size-AreSizes z fit)
-    ∙ ap (λ (l : List ℕ). ok_of (z, l)) (behind_again z rest)))
+    ∙ ap (λ (l : List ℕ). read_ok (z, l)) (behind_again z rest)))

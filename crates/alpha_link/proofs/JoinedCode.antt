@@ -18,7 +18,7 @@ use Rattle.alpha_shadow.specs.declared.broken.Condition.TheVariants.{ZeroDestina
 use Rattle.alpha_shadow.specs.declared.broken.Condition.TheVariants.{WildBase, LoadThenStore, Locked, Turn, Open, Long}
 use Rattle.alpha_shadow.specs.Code.{kind_at, destination_at, access_at, Sets, Uses, SetIn, ExposedIn}
 use Rattle.alpha_shadow.specs.Broken.{Holds, IsBroken, IsAccepted}
-use Rattle.alpha_shadow.proofs.Tables.{kind_within}
+use Rattle.alpha_shadow.proofs.WordColumns.{kind_within}
 use Rattle.alpha_link.specs.Alike.{HaveSameColumns, AreAlike}
 
 -- the words of a part stand in the whole from a place on
@@ -189,10 +189,10 @@ same_columns c d e =
     (record { kind = refl; sets = refl; uses = λ r. refl; access = refl; destination = refl })
 
 -- words at the front, and behind it
-get_front : (a b : List ℕ) (k : ℕ) → k < length a → slice_get (a ++ b) k ≡ slice_get a k
-get_front [] b k h = absurd (omega arith)
-get_front (x ∷ a) b zero h = refl
-get_front (x ∷ a) b (suc k) h = get_front a b k (omega arith)
+slice_get-append_front : (a b : List ℕ) (k : ℕ) → k < length a → slice_get (a ++ b) k ≡ slice_get a k
+slice_get-append_front [] b k h = absurd (omega arith)
+slice_get-append_front (x ∷ a) b zero h = refl
+slice_get-append_front (x ∷ a) b (suc k) h = slice_get-append_front a b k (omega arith)
 
 get_behind : (a b : List ℕ) (k : ℕ) → slice_get (a ++ b) (length a + k) ≡ slice_get b k
 get_behind [] b k = let same : 0 + k ≡ k = omega arith in ap (slice_get b) same
@@ -206,7 +206,7 @@ shows_front a b = record {
   columns = λ k h.
       let same : 0 + k ≡ k = omega arith in
       same_columns (class_at (a ++ b) (0 + k)) (class_at a k)
-      (ap (λ (i : ℕ). class_at (a ++ b) i) same ∙ ap (option_and_then class_in) (get_front a b k h));
+      (ap (λ (i : ℕ). class_at (a ++ b) i) same ∙ ap (option_and_then class_in) (slice_get-append_front a b k h));
   within = omega (arith, length-append a b);
 }
 

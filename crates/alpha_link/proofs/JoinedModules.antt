@@ -18,7 +18,7 @@ use Rattle.alpha_link.specs.Linked.{out_of_range_in}
 use Rattle.alpha_link.specs.Linked.{out_of_range, addresses_by}
 use Rattle.alpha_link.specs.declared.output.Output.{Output}
 use Rattle.alpha_link.specs.Output.{code_with_all, bytes_with_all, AreAfterCode, JoinsOne, JoinsAll}
-use Rattle.alpha_link.proofs.Lists.{drop-get_or, none_left, first-drop_none}
+use Rattle.alpha_link.proofs.LoopLists.{drop-get_or, drop-past_end, first-drop_none}
 use Rattle.alpha_link.proofs.NameAddresses.{take-next_module}
 use Rattle.alpha_link.proofs.LinkedCode.{known_insns, image_known}
 use Rattle.alpha_link.proofs.ShiftedRelocations.{bytes_shift, length-bytes_after}
@@ -79,9 +79,9 @@ last_append ls l =
     seam [] l = refl
     seam (x ∷ ls) l = seam ls l
 
-gap : (filled l m long bytes blank pad : ℕ) → l ≡ filled → m ≡ filled + (bytes + blank + pad) → long ≡ l + bytes
+padding-gap : (filled l m long bytes blank pad : ℕ) → l ≡ filled → m ≡ filled + (bytes + blank + pad) → long ≡ l + bytes
     → m - long ≡ blank + pad
-gap filled l m long bytes blank pad a b c = omega arith
+padding-gap filled l m long bytes blank pad a b c = omega arith
 
 -- a module more
 pub Joined-next : (all : List Located) (n : ℕ) (l : Located) (old new : Output) → n < length all → l ≡ get_or all n l
@@ -137,7 +137,7 @@ Joined-next all n l old new within here met one so_far =
     go [] s e at long = one.bytes ∙ e
     go (m ∷ rest) s e at long =
         let zeros : m.filled - length new.bytes.items ≡ l.parts.zeroed + padding 13 (size l.parts) =
-        gap so_far.filled l.filled m.filled (length new.bytes.items) (length l.parts.bytes) l.parts.zeroed
+        padding-gap so_far.filled l.filled m.filled (length new.bytes.items) (length l.parts.bytes) l.parts.zeroed
         (padding 13 (size l.parts)) at s.1.0 long in
         let later = replicate (l.parts.zeroed + padding 13 (size l.parts)) 0 ++ data_in all (m ∷ rest) in
         ap (λ (k : ℕ). new.bytes.items ++ (replicate k 0 ++ data_in all (m ∷ rest))) zeros
@@ -161,7 +161,7 @@ stands_next all n l code bytes within here so_far =
 pub joins_all : (all : List Located) (n : ℕ) (output : Output) → length all ≤ n → n ≤ length all
     → Joined all n output.code.items output.bytes.items → JoinsAll all output
 joins_all all n output past within so_far =
-    let none : drop n all ≡ [] = none_left all n past in
+    let none : drop n all ≡ [] = drop-past_end all n past in
     let whole : take n all ≡ all = ap (λ (k : ℕ). take k all) (omega arith) ∙ take-length all in
     record {
       met = sym so_far.met ∙ ap (first (λ l. out_of_range_in (addresses_of all l) l)) none;

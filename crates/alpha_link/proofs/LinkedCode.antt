@@ -35,12 +35,13 @@ use Rattle.alpha_link.specs.declared.relocation.Relocation.{Relocation}
 use Rattle.alpha_link.specs.Alike.{HaveSameColumns, AreAlike}
 use Rattle.alpha_link.specs.Parts.{ModuleParts}
 use Rattle.alpha_link.specs.Linked.{Located, located, places, addresses_of, displacement, insn_with, code_at}
-use Rattle.alpha_link.specs.Linked.{code_after, code_of, repeated, missing, out_of_range, entry_of, numbers_with}
+use Rattle.alpha_link.specs.Linked.{code_after, code_of, repeated, first_unresolved, out_of_range, entry_of}
+use Rattle.alpha_link.specs.Linked.{numbers_with}
 use Rattle.alpha_link.specs.Linked.{unless_refused, linked_at, linked}
 use Rattle.alpha_link.proofs.JoinedCode.{same_columns, accepted_concat, parts_accepted-alike}
 
-same : (c : Option Class) → HaveSameColumns c c
-same c = same_columns c c refl
+HaveSameColumns-refl : (c : Option Class) → HaveSameColumns c c
+HaveSameColumns-refl c = same_columns c c refl
 
 then_same : (c d e : Option Class) → HaveSameColumns c d → HaveSameColumns d e → HaveSameColumns c e
 then_same c d e a b = record {
@@ -52,17 +53,18 @@ then_same c d e a b = record {
 }
 
 -- instructions of the same columns, one by one
-abbrev pub Match : List Form → List Form → Type 0
-Match [] [] = Unit {0}
-Match [] (j ∷ js) = ⊥
-Match (i ∷ is) [] = ⊥
-Match (i ∷ is) (j ∷ js) = HaveSameColumns (Some (class_of i)) (Some (class_of j)) × Match is js
+abbrev pub HaveSameColumnsEach : List Form → List Form → Type 0
+HaveSameColumnsEach [] [] = Unit {0}
+HaveSameColumnsEach [] (j ∷ js) = ⊥
+HaveSameColumnsEach (i ∷ is) [] = ⊥
+HaveSameColumnsEach (i ∷ is) (j ∷ js) =
+    HaveSameColumns (Some (class_of i)) (Some (class_of j)) × HaveSameColumnsEach is js
 
-match_same : (is : List Form) → Match is is
+match_same : (is : List Form) → HaveSameColumnsEach is is
 match_same [] = tt
-match_same (i ∷ is) = (same (Some (class_of i)), match_same is)
+match_same (i ∷ is) = (HaveSameColumns-refl (Some (class_of i)), match_same is)
 
-match_then : (a b c : List Form) → Match a b → Match b c → Match a c
+match_then : (a b c : List Form) → HaveSameColumnsEach a b → HaveSameColumnsEach b c → HaveSameColumnsEach a c
 match_then [] [] [] m n = tt
 match_then [] [] (k ∷ c) m n = absurd n
 match_then [] (j ∷ b) c m n = absurd m
@@ -71,21 +73,22 @@ match_then (i ∷ a) (j ∷ b) [] m n = absurd n
 match_then (i ∷ a) (j ∷ b) (k ∷ c) m n =
     (then_same (Some (class_of i)) (Some (class_of j)) (Some (class_of k)) m.0 n.0, match_then a b c m.1 n.1)
 
-match_append : (a b c d : List Form) → Match a b → Match c d → Match (a ++ c) (b ++ d)
+match_append : (a b c d : List Form) → HaveSameColumnsEach a b → HaveSameColumnsEach c d
+    → HaveSameColumnsEach (a ++ c) (b ++ d)
 match_append [] [] c d m n = n
 match_append [] (j ∷ b) c d m n = absurd m
 match_append (i ∷ a) [] c d m n = absurd m
 match_append (i ∷ a) (j ∷ b) c d m n = (m.0, match_append a b c d m.1 n)
 
-length-match : (a b : List Form) → Match a b → length a ≡ length b
+length-match : (a b : List Form) → HaveSameColumnsEach a b → length a ≡ length b
 length-match [] [] m = refl
 length-match [] (j ∷ b) m = absurd m
 length-match (i ∷ a) [] m = absurd m
 length-match (i ∷ a) (j ∷ b) m = ap suc (length-match a b m.1)
 
-match_at : (a b : List Form) → Match a b → (k : ℕ)
+match_at : (a b : List Form) → HaveSameColumnsEach a b → (k : ℕ)
     → HaveSameColumns (option_map class_of (slice_get a k)) (option_map class_of (slice_get b k))
-match_at [] [] m k = same None
+match_at [] [] m k = HaveSameColumns-refl None
 match_at [] (j ∷ b) m k = absurd m
 match_at (i ∷ a) [] m k = absurd m
 match_at (i ∷ a) (j ∷ b) m zero = m.0
@@ -106,7 +109,7 @@ displaced_alike uses.High (Bytes n) (Mem Ldah ra rb disp) t =
 displaced_alike uses.Low (Bytes n) (Mem Lda ra rb disp) t =
     record { kind = refl; sets = refl; uses = λ r. refl; access = refl; destination = refl }
 displaced_alike field (Bytes n) (Mem op ra rb disp) t = absurd cc
-displaced_alike field d insn t = same (Some (class_of insn))
+displaced_alike field d insn t = HaveSameColumns-refl (Some (class_of insn))
 
 insn_alike : (kind : RelocationKind) (d : Displacement) (insn : Form)
     → HaveSameColumns (Some (class_of insn)) (Some (class_of (insn_with kind d insn)))
@@ -115,8 +118,8 @@ insn_alike (kinds.Insn by) d insn = either (takes by insn) refl
     either : (b : Bool) → takes by insn ≡ b
         → HaveSameColumns (Some (class_of insn)) (Some (class_of (cond b (displaced insn d) insn)))
     either true t = displaced_alike by d insn t
-    either false t = same (Some (class_of insn))
-insn_alike kinds.Quad d insn = same (Some (class_of insn))
+    either false t = HaveSameColumns-refl (Some (class_of insn))
+insn_alike kinds.Quad d insn = HaveSameColumns-refl (Some (class_of insn))
 
 put_later : (kind : RelocationKind) (d : Displacement) (place : ℕ) (i : Form) (code : List Form) (o : Option Form)
     → option_map_or (λ insn. slice_set (i ∷ code) (suc place) (insn_with kind d insn)) o (i ∷ code)
@@ -125,20 +128,20 @@ put_later kind d place i code None = refl
 put_later kind d place i code (Some insn) = refl
 
 put_alike : (kind : RelocationKind) (d : Displacement) (place : ℕ) (code : List Form)
-    → Match code (code_at kind place (Some d) code)
+    → HaveSameColumnsEach code (code_at kind place (Some d) code)
 put_alike kind d place [] = tt
 put_alike kind d zero (i ∷ code) = (insn_alike kind d i, match_same code)
 put_alike kind d (suc place) (i ∷ code) =
-    subst (Match (i ∷ code)) (sym (put_later kind d place i code (slice_get code place)))
-    (same (Some (class_of i)), put_alike kind d place code)
+    subst (HaveSameColumnsEach (i ∷ code)) (sym (put_later kind d place i code (slice_get code place)))
+    (HaveSameColumns-refl (Some (class_of i)), put_alike kind d place code)
 
 code_at_alike : (kind : RelocationKind) (place : ℕ) (o : Option Displacement) (code : List Form)
-    → Match code (code_at kind place o code)
+    → HaveSameColumnsEach code (code_at kind place o code)
 code_at_alike kind place None code = match_same code
 code_at_alike kind place (Some d) code = put_alike kind d place code
 
 code_after_alike : (addresses : List (Option ℕ)) (l : Located) (rs : List Relocation) (code : List Form)
-    → Match code (code_after addresses l rs code)
+    → HaveSameColumnsEach code (code_after addresses l rs code)
 code_after_alike addresses l [] code = match_same code
 code_after_alike addresses l (r ∷ rs) code =
     let one = code_at r.kind (r.offset / 4) (displacement addresses l r) code in
@@ -149,7 +152,7 @@ code_after_alike addresses l (r ∷ rs) code =
 abbrev raw_code : List Located → List Form
 raw_code ls = flat_map (λ l. filter_map decoded l.parts.words) ls
 
-raw_alike : (all ls : List Located) → Match (raw_code ls) (flat_map (code_of all) ls)
+raw_alike : (all ls : List Located) → HaveSameColumnsEach (raw_code ls) (flat_map (code_of all) ls)
 raw_alike all [] = tt
 raw_alike all (l ∷ ls) =
     match_append (filter_map decoded l.parts.words) (code_of all l) (raw_code ls) (flat_map (code_of all) ls)
@@ -185,7 +188,7 @@ class_of_insns (w ∷ words) (i ∷ is) e (suc k) =
     class_of_insns words is later k
 
 words_alike : (a b : List ℕ) (is js : List Form) → map decoded a ≡ map Some is → map decoded b ≡ map Some js
-    → Match is js → AreAlike a b
+    → HaveSameColumnsEach is js → AreAlike a b
 words_alike a b is js e f m = record {
   size =
       sym (length-map a decoded) ∙ (ap length e ∙ (length-map is Some
@@ -273,7 +276,7 @@ unfolding linked
 linked_accepted ms entry image good e all =
     let ls = places ms in
     let a = unless_ok (option_map (λ p. Duplicate p.0 p.1) (repeated [] ls)) _ (program_of image) e in
-    let b = unless_ok (option_map (λ p. Undefined p.0 p.1) (missing ls)) _ (program_of image) a in
+    let b = unless_ok (option_map (λ p. Undefined p.0 p.1) (first_unresolved ls)) _ (program_of image) a in
     let code : flat_map (code_of ls) ls ≡ filter_map decoded image.words =
     linked_code ls (entry_of ls entry) (program_of image) b in
     let before : map decoded (all_words ms) ≡ map Some (raw_code ls) =

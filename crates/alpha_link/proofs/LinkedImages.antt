@@ -49,7 +49,8 @@ use Rattle.alpha_link.specs.declared.fault.LinkFault.{LinkFault}
 use Rattle.alpha_link.specs.declared.fault.LinkFault.TheVariants.{Duplicate, Undefined, ImageField, Reach}
 use Rattle.alpha_link.specs.Linked.{Located, located, places, size, room, last_of, words_in, filled_in, addresses_of}
 use Rattle.alpha_link.specs.Linked.{use_of, target, displacement, quadword, insn_with, code_at, code_after, bytes_after}
-use Rattle.alpha_link.specs.Linked.{code_of, bytes_of, data_in, numbers_with, repeated, missing, out_of_range, entry_of}
+use Rattle.alpha_link.specs.Linked.{code_of, bytes_of, data_in, numbers_with, repeated, first_unresolved, out_of_range}
+use Rattle.alpha_link.specs.Linked.{entry_of}
 use Rattle.alpha_link.specs.Linked.{unless_refused, linked_at, linked}
 use Rattle.alpha_link.proofs.JoinedModules.{located_stand}
 
@@ -148,16 +149,16 @@ joined_allowed addresses l old new good one all =
     (All-append IsAllowed old.code.items (code_after addresses l rs own) all
     (code_after_allowed addresses l rs own (words_allowed l.parts.words good.words)))
 
-abbrev Good : Located → Type 0
-Good l = IsModule l.parts
+abbrev IsGoodLocated : Located → Type 0
+IsGoodLocated l = IsModule l.parts
 
-code_allowed : (all ls : List Located) → All Good ls → All IsAllowed (flat_map (code_of all) ls)
+code_allowed : (all ls : List Located) → All IsGoodLocated ls → All IsAllowed (flat_map (code_of all) ls)
 code_allowed all [] good = All-nil IsAllowed
 code_allowed all (l ∷ ls) good =
     All-append IsAllowed (code_of all l) (flat_map (code_of all) ls)
     (code_after_allowed (addresses_of all l) l l.parts.relocations (filter_map decoded l.parts.words)
-    (words_allowed l.parts.words (All-head Good l ls good).words))
-    (code_allowed all ls (All-tail Good l ls good))
+    (words_allowed l.parts.words (All-head IsGoodLocated l ls good).words))
+    (code_allowed all ls (All-tail IsGoodLocated l ls good))
 
 -- ---- data bytes
 
@@ -186,22 +187,22 @@ bytes_after_bytes addresses (r ∷ rs) bytes all =
     go None = all
     go (Some n) = overlaid_bytes r.offset n bytes all
 
-own_bytes : (all : List Located) (l : Located) → Good l → All IsByte (bytes_of all l)
+own_bytes : (all : List Located) (l : Located) → IsGoodLocated l → All IsByte (bytes_of all l)
 own_bytes all l good = bytes_after_bytes (addresses_of all l) l.parts.relocations l.parts.bytes good.bytes
 
 zero_byte : IsByte 0
 zero_byte = omega arith
 
-data_bytes : (all ls : List Located) → All Good ls → All IsByte (data_in all ls)
+data_bytes : (all ls : List Located) → All IsGoodLocated ls → All IsByte (data_in all ls)
 data_bytes all [] good = All-nil IsByte
-data_bytes all (l ∷ []) good = own_bytes all l (All-head Good l [] good)
+data_bytes all (l ∷ []) good = own_bytes all l (All-head IsGoodLocated l [] good)
 data_bytes all (l ∷ next ∷ rest) good =
     All-append IsByte (bytes_of all l)
     (replicate (l.parts.zeroed + padding 13 (size l.parts)) 0 ++ data_in all (next ∷ rest))
-    (own_bytes all l (All-head Good l (next ∷ rest) good))
+    (own_bytes all l (All-head IsGoodLocated l (next ∷ rest) good))
     (All-append IsByte (replicate (l.parts.zeroed + padding 13 (size l.parts)) 0) (data_in all (next ∷ rest))
     (All-replicate IsByte (l.parts.zeroed + padding 13 (size l.parts)) 0 zero_byte)
-    (data_bytes all (next ∷ rest) (All-tail Good l (next ∷ rest) good)))
+    (data_bytes all (next ∷ rest) (All-tail IsGoodLocated l (next ∷ rest) good)))
 
 -- ---- sizes
 
@@ -215,21 +216,21 @@ known_size words all =
     sym (length-map (filter_map decoded words) Some)
     ∙ (ap length (sym (known_insns words (image_known levels.One words all))) ∙ length-map words decoded)
 
-own_size : (all : List Located) (l : Located) → Good l → length (code_of all l) ≡ length l.parts.words
+own_size : (all : List Located) (l : Located) → IsGoodLocated l → length (code_of all l) ≡ length l.parts.words
 own_size all l good =
     length-code_after (addresses_of all l) l l.parts.relocations (filter_map decoded l.parts.words)
     ∙ known_size l.parts.words good.words
 
 code_size : (all : List Located) (l : Located) (ls : List Located) (words filled : ℕ)
-    → AreAfterCode words filled (l ∷ ls) → All Good (l ∷ ls)
+    → AreAfterCode words filled (l ∷ ls) → All IsGoodLocated (l ∷ ls)
     → words + length (flat_map (code_of all) (l ∷ ls)) ≡ words_in (l ∷ ls)
 code_size all l [] words filled s good =
-    let one = own_size all l (All-head Good l [] good) in
+    let one = own_size all l (All-head IsGoodLocated l [] good) in
     omega (arith, length-append (code_of all l) [], one, s.0)
 code_size all l (next ∷ rest) words filled s good =
-    let one = own_size all l (All-head Good l (next ∷ rest) good) in
+    let one = own_size all l (All-head IsGoodLocated l (next ∷ rest) good) in
     let later = code_size all next rest (words + length l.parts.words) (filled + room l.parts) s.1.1
-    (All-tail Good l (next ∷ rest) good) in
+    (All-tail IsGoodLocated l (next ∷ rest) good) in
     let more : words + length (flat_map (code_of all) (l ∷ next ∷ rest))
     ≡ words + length l.parts.words + length (flat_map (code_of all) (next ∷ rest)) =
     omega (arith, length-append (code_of all l) (flat_map (code_of all) (next ∷ rest)), one) in
@@ -260,7 +261,8 @@ data_size all l (next ∷ rest) words filled s =
     ∙ sym
     (ap (λ (o : Option Located). option_map_or (λ x. x.filled + length x.parts.bytes) o 0) (last_more l next rest)))
 
-words_all : (ls : List Located) → AreAfterCode 0 0 ls → All Good ls → length (flat_map (code_of ls) ls) ≡ words_in ls
+words_all : (ls : List Located) → AreAfterCode 0 0 ls → All IsGoodLocated ls
+    → length (flat_map (code_of ls) ls) ≡ words_in ls
 words_all [] s good = refl
 words_all (l ∷ ls) s good = let h = code_size (l ∷ ls) l ls 0 0 s good in omega (arith, h)
 
@@ -269,10 +271,10 @@ data_all [] s = refl
 data_all (l ∷ ls) s = let h = data_size (l ∷ ls) l ls 0 0 s in omega (arith, h)
 
 good_places : (ms : List ModuleParts) (number words filled : ℕ) → All IsModule ms
-    → All Good (located number words filled ms)
-good_places [] number words filled good = All-nil Good
+    → All IsGoodLocated (located number words filled ms)
+good_places [] number words filled good = All-nil IsGoodLocated
 good_places (m ∷ ms) number words filled good =
-    All-cons Good (record { number = number; words = words; filled = filled; parts = m })
+    All-cons IsGoodLocated (record { number = number; words = words; filled = filled; parts = m })
     (located (number + 1) (words + length m.words) (filled + room m) ms)
     (All-head IsModule m ms good)
     (good_places ms (number + 1) (words + length m.words) (filled + room m) (All-tail IsModule m ms good))
@@ -325,7 +327,7 @@ unfolding linked
 linked_image ms entry p good e =
     let ls = places ms in
     let a = unless_ok (option_map (λ q. Duplicate q.0 q.1) (repeated [] ls)) _ p e in
-    let b = unless_ok (option_map (λ q. Undefined q.0 q.1) (missing ls)) _ p a in
+    let b = unless_ok (option_map (λ q. Undefined q.0 q.1) (first_unresolved ls)) _ p a in
     at (entry_of ls entry) b
   where
     at : (o : Option ℕ) → linked_at (places ms) o ≡ Ok p → (image : Parts) × IsImage image × (program_of image ≡ p)

@@ -10,7 +10,7 @@ use Rattle.std.proofs.lemmas.List.Elements.{All-from_get_or, All-get_or}
 use Rattle.alpha_words.specs.declared.Level.TheVariants.{One}
 use Rattle.alpha_image.specs.Layout.{longword}
 use Rattle.alpha_image.specs.Parts.{IsByte, IsCodeWord}
-use Rattle.alpha_image.proofs.Numbers.{IsBytes, IsBytes-drop, IsBytes-take}
+use Rattle.alpha_image.proofs.LittleEndianNumbers.{IsBytes, IsBytes-drop, IsBytes-take}
 use Rattle.alpha_link.specs.declared.header.Sizes.{Sizes}
 use Rattle.alpha_link.specs.declared.relocation.Relocation.{Relocation}
 use Rattle.alpha_link.specs.Reading.{Read, and_then, taken, items_at}
@@ -20,8 +20,8 @@ use Rattle.alpha_link.specs.Relocations.{relocation_at, relocation_bytes, IsRelo
 use Rattle.alpha_link.specs.Parts.{ModuleParts, sizes_of, body_of, AreGood, IsModule}
 use Rattle.alpha_link.specs.Spelled.{words_at, ended, parts, relocated_at, named_at, filled_at, coded_at, module_at}
 use Rattle.alpha_link.specs.Spelled.{spelling}
-use Rattle.alpha_link.proofs.Results.{bind_ok, taken_ok, gave-injective}
-use Rattle.alpha_link.proofs.Formats.{items_take, items_again}
+use Rattle.alpha_link.proofs.ReadingResults.{bind_ok, taken_ok, gave-injective}
+use Rattle.alpha_link.proofs.ItemLists.{items_take, items_again}
 use Rattle.alpha_link.proofs.HeaderBytes.{AreSizes, header_takes, header_again}
 use Rattle.alpha_link.proofs.WordBytes.{words_take, words_again}
 use Rattle.alpha_link.proofs.SymbolBytes.{symbol_format}

@@ -10,16 +10,17 @@ use Rattle.alpha_link.specs.Linked.{Located, address_in, address_of, repeated}
 use Rattle.alpha_link.specs.Names.{again_in}
 use Rattle.alpha_link.specs.declared.fault.LinkFault.{LinkFault}
 use Rattle.alpha_link.specs.declared.fault.LinkFault.TheVariants.{Duplicate}
-use Rattle.alpha_link.proofs.Lists.{drop-get_or}
+use Rattle.alpha_link.proofs.LoopLists.{drop-get_or}
 
-pub or_assoc : {A : Type 0} (o p q : Option A) → option_or (option_or o p) q ≡ option_or o (option_or p q)
-or_assoc None p q = refl
-or_assoc (Some x) p q = refl
+pub option_or-associates : {A : Type 0} (o p q : Option A) → option_or (option_or o p) q ≡ option_or o (option_or p q)
+option_or-associates None p q = refl
+option_or-associates (Some x) p q = refl
 
 pub first_append : {A B : Type 0} (f : A → Option B) (xs : List A) (x : A)
     → first f (xs ++ x ∷ []) ≡ option_or (first f xs) (f x)
 first_append f [] x = or_none-identity (f x)
-first_append f (y ∷ xs) x = ap (option_or (f y)) (first_append f xs x) ∙ sym (or_assoc (f y) (first f xs) (f x))
+first_append f (y ∷ xs) x =
+    ap (option_or (f y)) (first_append f xs x) ∙ sym (option_or-associates (f y) (first f xs) (f x))
 
 -- the modules before the next one
 pub take-next_module : (ls : List Located) (n : ℕ) (l : Located) → n < length ls → l ≡ get_or ls n l
@@ -38,12 +39,13 @@ find-next_module find find1 ls n l within here before more name =
     ∙ ap (first (address_in name)) (sym (take-next_module ls n l within here))))
 
 -- what is left of the modules from one on
-left : (find : List ℕ → Option ℕ) (ls : List Located) (n : ℕ) (l : Located) (whole : Option (ℕ × ℕ)) → n < length ls
+repeated-rest : (find : List ℕ → Option ℕ) (ls : List Located) (n : ℕ) (l : Located) (whole : Option (ℕ × ℕ))
+    → n < length ls
     → l ≡ get_or ls n l → ((name : List ℕ) → find name ≡ address_of (take n ls) name)
     → repeated (take n ls) (drop n ls) ≡ whole
     → option_or (option_map (λ k. (l.number, k)) (again_in find l)) (repeated (take n ls ++ l ∷ []) (drop (n + 1) ls))
     ≡ whole
-left find ls n l whole within here found e =
+repeated-rest find ls n l whole within here found e =
     ap (λ (f : List ℕ → Option ℕ).
     option_or (option_map (λ k. (l.number, k)) (again_in f l)) (repeated (take n ls ++ l ∷ []) (drop (n + 1) ls)))
     (fun_ext found)
@@ -59,13 +61,13 @@ none_again find ls n l whole within here found none e =
     ∙ (ap
     (λ (o : Option ℕ). option_or (option_map (λ k. (l.number, k)) o) (repeated (take n ls ++ l ∷ []) (drop (n + 1) ls)))
     (sym none)
-    ∙ left find ls n l whole within here found e)
+    ∙ repeated-rest find ls n l whole within here found e)
 
 some_again : (find : List ℕ → Option ℕ) (ls : List Located) (n : ℕ) (l : Located) (k : ℕ) (whole : Option (ℕ × ℕ))
     → n < length ls → l ≡ get_or ls n l → ((name : List ℕ) → find name ≡ address_of (take n ls) name)
     → again_in find l ≡ Some k → repeated (take n ls) (drop n ls) ≡ whole → whole ≡ Some (l.number, k)
 some_again find ls n l k whole within here found some e =
-    sym (left find ls n l whole within here found e)
+    sym (repeated-rest find ls n l whole within here found e)
     ∙ ap
     (λ (o : Option ℕ). option_or (option_map (λ j. (l.number, j)) o) (repeated (take n ls ++ l ∷ []) (drop (n + 1) ls)))
     some

@@ -21,7 +21,7 @@ use Rattle.alpha_asm.specs.declared.place.Section.{Section}
 use Rattle.alpha_asm.specs.declared.place.Section.TheVariants as sides
 use Rattle.alpha_asm.specs.declared.place.LabelLocation.{LabelLocation}
 use Rattle.alpha_asm.specs.Patches.{Fix, fix_of}
-use Rattle.alpha_asm.proofs.Whole.{slice_get-seam}
+use Rattle.alpha_asm.proofs.IsWhole.{slice_get-seam}
 use Rattle.alpha_link.specs.declared.keyed.KeyedName.{KeyedName}
 use Rattle.alpha_asm.specs.declared.patch.RelocationKind.{RelocationKind}
 use Rattle.alpha_link.specs.declared.relocation.Relocation.{Relocation}
@@ -30,11 +30,11 @@ use Rattle.alpha_link.specs.SortedNames.{Rise}
 use Rattle.alpha_link.specs.Made.{symbol_at_location, number_in, kind_in, offset_in, relocation_with, relocation_for}
 use Rattle.alpha_link.specs.Numbered.{texts, relocation_at, relocations_at, ranked, HasRank, ByNumbers}
 use Rattle.alpha_link.proofs.IsNumbered.{front_stays, texts_more}
-use Rattle.alpha_link.proofs.Repeats.{distinct_names, last_left, pushed_left, kept_left}
+use Rattle.alpha_link.proofs.DistinctNames.{distinct_names, last_left, pushed_left, kept_left}
 use Rattle.alpha_link.proofs.SortedNames.{number_is}
 
-abbrev Name : Type 0
-Name = Bor (List ℕ)
+abbrev BorrowedName : Type 0
+BorrowedName = Bor (List ℕ)
 
 -- each of some names has a rank by its number, at which it stands among the rising ones
 abbrev pub AreRanks : List (List ℕ) → List (List ℕ) → List ℕ → Type 0
@@ -53,21 +53,22 @@ set_elsewhere (x ∷ xs) zero (suc j) v h = refl
 set_elsewhere (x ∷ xs) (suc i) zero v h = refl
 set_elsewhere (x ∷ xs) (suc i) (suc j) v h = set_elsewhere xs i j v (λ e. h (ap suc e))
 
-abbrev symbol : (List ℕ → Option LabelLocation) → Name → Named
-symbol spot n = symbol_at_location n.now (spot n.now)
+abbrev named_symbol : (List ℕ → Option LabelLocation) → BorrowedName → Named
+named_symbol spot n = symbol_at_location n.now (spot n.now)
 
 -- Names in order with one more: the symbols of those without repetitions, the last of them, and the rank of the one
 -- more.
-pub record RanksGrown (spot : List ℕ → Option LabelLocation) (before : List Name) (x : Name) (symbols : List Named)
-    (last : Option Name) (rank : ℕ) : Type 0 where
+pub record RanksGrown (spot : List ℕ → Option LabelLocation) (before : List BorrowedName) (x : BorrowedName)
+    (symbols : List Named)
+    (last : Option BorrowedName) (rank : ℕ) : Type 0 where
   pub made : symbols ≡ map (λ n. symbol_at_location n.now (spot n.now)) (distinct_names (before ++ x ∷ []))
   pub left : last ≡ last_left (before ++ x ∷ [])
   pub stands : slice_get (texts (distinct_names (before ++ x ∷ []))) rank ≡ Some x.now
   pub stays : IfSome last (λ b. slice_get (texts (distinct_names (before ++ x ∷ []))) rank ≡ Some b.now)
-  pub grows : (more : List Name) × (distinct_names (before ++ x ∷ []) ≡ distinct_names before ++ more)
+  pub grows : (more : List BorrowedName) × (distinct_names (before ++ x ∷ []) ≡ distinct_names before ++ more)
 
-pub grown_new : (spot : List ℕ → Option LabelLocation) (ns : List Name)
-    (last : Option Name) (x : Name) (symbols : List Named) (rank : ℕ)
+pub grown_new : (spot : List ℕ → Option LabelLocation) (ns : List BorrowedName)
+    (last : Option BorrowedName) (x : BorrowedName) (symbols : List Named) (rank : ℕ)
     → symbols ≡ map (λ n. symbol_at_location n.now (spot n.now)) (distinct_names ns)
     → last ≡ last_left ns → IfSome last (λ b. true ≡ not (bytes_eq x.now b.now)) → rank ≡ length symbols
     → RanksGrown spot ns x (symbols ++ symbol_at_location x.now (spot x.now) ∷ []) (Some x) rank
@@ -75,7 +76,8 @@ grown_new spot ns last x symbols rank made left new count =
     let (more, after) = pushed_left ns last x left new in
     let place : rank ≡ length (texts (distinct_names ns)) =
     count ∙ (ap length made
-    ∙ (length-map (distinct_names ns) (symbol spot) ∙ sym (length-map (distinct_names ns) (λ (n : Name). n.now)))) in
+    ∙ (length-map (distinct_names ns) (named_symbol spot)
+    ∙ sym (length-map (distinct_names ns) (λ (n : BorrowedName). n.now)))) in
     let there : slice_get (texts (distinct_names (ns ++ x ∷ []))) rank ≡ Some x.now =
     ap (λ l. slice_get (texts l) rank) more
     ∙ (ap (λ l. slice_get l rank) (texts_more (distinct_names ns) (x ∷ []))
@@ -83,16 +85,17 @@ grown_new spot ns last x symbols rank made left new count =
     ∙ slice_get-seam (texts (distinct_names ns)) [] x.now)) in
     record {
       made =
-          ap (λ l. l ++ symbol spot x ∷ []) made
-          ∙ (sym (map-append (symbol spot) (distinct_names ns) (x ∷ [])) ∙ ap (map (symbol spot)) (sym more));
+          ap (λ l. l ++ named_symbol spot x ∷ []) made
+          ∙ (sym (map-append (named_symbol spot) (distinct_names ns) (x ∷ []))
+          ∙ ap (map (named_symbol spot)) (sym more));
       left = sym after;
       stands = there;
       stays = there;
       grows = (x ∷ [], more);
     }
 
-pub grown_old : (spot : List ℕ → Option LabelLocation) (ns : List Name)
-    (last : Option Name) (x : Name) (symbols : List Named) (rank : ℕ)
+pub grown_old : (spot : List ℕ → Option LabelLocation) (ns : List BorrowedName)
+    (last : Option BorrowedName) (x : BorrowedName) (symbols : List Named) (rank : ℕ)
     → symbols ≡ map (λ n. symbol_at_location n.now (spot n.now)) (distinct_names ns)
     → last ≡ last_left ns → IfNone last (false ≡ true) → IfSome last (λ b. false ≡ not (bytes_eq x.now b.now))
     → IfSome last (λ b. slice_get (texts (distinct_names ns)) rank ≡ Some b.now)
@@ -105,7 +108,7 @@ grown_old spot ns (Some b) x symbols rank made left none old stands =
     let there : slice_get (texts (distinct_names (ns ++ x ∷ []))) rank ≡ Some b.now =
     ap (λ l. slice_get (texts l) rank) more ∙ stands in
     record {
-      made = made ∙ ap (map (symbol spot)) (sym more);
+      made = made ∙ ap (map (named_symbol spot)) (sym more);
       left = left ∙ sym (after ∙ left);
       stands = there ∙ ap Some (sym one);
       stays = there;
@@ -117,7 +120,7 @@ grown_old spot ns (Some b) x symbols rank made left none old stands =
     once_more false h = cc
 
 -- where some names have ranks, and a further one gets its own at its number, all of these have one
-module _ (names : List (List ℕ)) (ranks : List ℕ) (rank : ℕ) (x : KeyedName) (before more : List Name)
+module _ (names : List (List ℕ)) (ranks : List ℕ) (rank : ℕ) (x : KeyedName) (before more : List BorrowedName)
     (x_number : slice_get names x.number ≡ Some x.name.now) (inside : x.number < length ranks)
     (there : slice_get (texts (before ++ more)) rank ≡ Some x.name.now) where
   one_more : (k : KeyedName) → slice_get names k.number ≡ Some k.name.now → HasRank ranks (texts before) k
@@ -142,7 +145,7 @@ module _ (names : List (List ℕ)) (ranks : List ℕ) (rank : ℕ) (x : KeyedNam
       )
 
 pub ranks_more : (names : List (List ℕ)) (ks : List KeyedName) (i : ℕ)
-    (x d : KeyedName) (ranks : List ℕ) (rank : ℕ) (before after more : List Name)
+    (x d : KeyedName) (ranks : List ℕ) (rank : ℕ) (before after more : List BorrowedName)
     → i < length ks → x ≡ get_or ks i d
     → All (λ k. slice_get names k.number ≡ Some k.name.now) ks → x.number < length ranks → after ≡ before ++ more
     → slice_get (texts after) rank ≡ Some x.name.now
@@ -160,25 +163,25 @@ ranks_more names ks i x d ranks rank before after more here is_x numbers inside 
     rw grown (All-more (HasRank (set ranks x.number rank) (texts those)) ks i d here old new)
 
 -- the rank of a name among rising ones is the number of its symbol
-number_of_rank : (ns : List Name) (rank : ℕ) (name : List ℕ) → Rise ns → slice_get (texts ns) rank ≡ Some name
+number_of_rank : (ns : List BorrowedName) (rank : ℕ) (name : List ℕ) → Rise ns → slice_get (texts ns) rank ≡ Some name
     → number_in (texts ns) name ≡ Some rank
 number_of_rank ns rank name rise at =
-    by (slice_get ns rank) refl (sym (slice_get-map (λ (n : Name). n.now) ns rank) ∙ at)
+    by (slice_get ns rank) refl (sym (slice_get-map (λ (n : BorrowedName). n.now) ns rank) ∙ at)
   where
-    by : (o : Option Name) → slice_get ns rank ≡ o → option_map (λ (n : Name). n.now) o ≡ Some name
+    by : (o : Option BorrowedName) → slice_get ns rank ≡ o → option_map (λ (n : BorrowedName). n.now) o ≡ Some name
         → number_in (texts ns) name ≡ Some rank
     by None e h = cc
     by (Some n) e h =
         let same : n.now ≡ name = cc in
-        let none : Name = record { ref_ptr = (0, 0); now = [] } in
+        let none : BorrowedName = record { ref_ptr = (0, 0); now = [] } in
         let there : get_or ns rank none ≡ n = get_or_from_slice_get ns rank n none e in
         let tied : slice_cmp nat_cmp n.now n.now ≡ Equal = tied_itself nat_list_cmp_total n.now in
         let found : number_in (texts ns) n.now ≡ Some rank = number_is ns n none rank rise
-        (slice_get_within ns rank n e) (ap (λ (m : Name). slice_cmp nat_cmp m.now n.now) there ∙ tied) in
+        (slice_get_within ns rank n e) (ap (λ (m : BorrowedName). slice_cmp nat_cmp m.now n.now) there ∙ tied) in
         rw (← same) found
 
 -- a relocation by the number of its label, with the rank of this
-relocation_ranked : (side : Section) (ns : List Name) (ranks : List ℕ) (f : Fix) (number rank : ℕ) → Rise ns
+relocation_ranked : (side : Section) (ns : List BorrowedName) (ranks : List ℕ) (f : Fix) (number rank : ℕ) → Rise ns
     → slice_get ranks number ≡ Some rank → slice_get (texts ns) rank ≡ Some f.name.reference.label
     → option_map (ranked ranks) (relocation_at side f number) ≡ relocation_for side (texts ns) f
 relocation_ranked side ns ranks f number rank rise at stands = by (kind_in side f.name.target)
@@ -197,7 +200,7 @@ relocation_ranked side ns ranks f number rank rise at stands = by (kind_in side 
         rw (found, place) refl
 
 pub relocations_ranked : (side : Section) (names : List (List ℕ))
-    (ns : List Name) (ranks : List ℕ) (ps : List Patch) (numbers : List ℕ)
+    (ns : List BorrowedName) (ranks : List ℕ) (ps : List Patch) (numbers : List ℕ)
     → Rise ns → AreRanks names (texts ns) ranks
     → map (slice_get names) numbers ≡ map (λ p. Some p.to.label.now) ps
     → map (ranked ranks) (relocations_at side (map fix_of ps) numbers)
@@ -272,13 +275,13 @@ are_ranks names rising ranks ks numbers each all number name at =
         by false other f others = others f
 
 -- the same of names as the code has them
-pub ranks_of : (names : List Name) (ks : List KeyedName) (ranks : List ℕ)
+pub ranks_of : (names : List BorrowedName) (ks : List KeyedName) (ranks : List ℕ)
     → All (λ k. slice_get (texts names) k.number ≡ Some k.name.now) ks
     → ((number : ℕ) → number < length names → list_any (λ k. number == k.number) ks ≡ true)
     → All (HasRank ranks (texts (distinct_names (map (λ k. k.name) ks)))) ks
     → AreRanks (texts names) (texts (distinct_names (map (λ k. k.name) ks))) ranks
 ranks_of names ks ranks numbers each all =
-    let count : length (texts names) ≡ length names = length-map names (λ (n : Name). n.now) in
+    let count : length (texts names) ≡ length names = length-map names (λ (n : BorrowedName). n.now) in
     are_ranks (texts names) (texts (distinct_names (map (λ (k : KeyedName). k.name) ks))) ranks ks numbers
     (λ number h. each number (omega (arith, count))) all
 
@@ -293,7 +296,8 @@ AreRanks-within names rising ranks ps relocations are (numbers, named, made) =
     (All-append (λ (r : Relocation). r.symbol < length ranks) (relocations_at sides.Code (map fix_of ps) numbers)
     (relocations_at sides.Data (map fix_of ps) numbers) (part sides.Code) (part sides.Data))
 
-pub all_ranked : (names : List (List ℕ)) (ns : List Name) (ranks : List ℕ) (ps : List Patch) (old new : List Relocation)
+pub all_ranked : (names : List (List ℕ)) (ns : List BorrowedName) (ranks : List ℕ) (ps : List Patch)
+    (old new : List Relocation)
     → Rise ns → AreRanks names (texts ns) ranks → ByNumbers names ps old → new ≡ map (ranked ranks) old
     → new
     ≡ filter_map (relocation_for sides.Code (texts ns)) (map fix_of ps)

@@ -11,7 +11,8 @@ use Rattle.std.proofs.lemmas.List.{length-append}
 use mir.Val.{SFits}
 use Rattle.alpha_image.specs.Layout.{longword}
 use Rattle.alpha_image.specs.Reading.{longword_at}
-use Rattle.alpha_image.proofs.Numbers.{IsBytes, IsBytes-drop, longword_at-lt, longword_at-front, drop-longword}
+use Rattle.alpha_image.proofs.LittleEndianNumbers.{IsBytes, IsBytes-drop, longword_at-lt, longword_at-front}
+use Rattle.alpha_image.proofs.LittleEndianNumbers.{drop-longword}
 use Rattle.alpha_link.specs.declared.fault.ModuleFault.TheVariants as faults
 use Rattle.alpha_link.specs.declared.header.Sizes.{Sizes}
 use Rattle.alpha_asm.specs.declared.patch.RelocationKind.{RelocationKind}
@@ -20,9 +21,9 @@ use Rattle.alpha_asm.specs.declared.statement.RelocField.TheVariants.{Branch, Hi
 use Rattle.alpha_link.specs.declared.relocation.Relocation.{Relocation}
 use Rattle.alpha_link.specs.Relocations.{Body, kind_of, kind_number, is_addend, relocation_fits, made_relocation}
 use Rattle.alpha_link.specs.Relocations.{relocation_in, good_relocation, relocation_at, relocation_bytes, IsRelocation}
-use Rattle.alpha_link.proofs.Results.{pair_is, unless_err, cond-Ok}
-use Rattle.alpha_link.proofs.Formats.{IsFormat}
-use Rattle.alpha_link.proofs.Numbers.{first_byte}
+use Rattle.alpha_link.proofs.ReadingResults.{pair_is, unless_err, cond-Ok}
+use Rattle.alpha_link.proofs.ItemLists.{IsFormat}
+use Rattle.alpha_link.proofs.TwoByteNumbers.{first_byte}
 
 kind_is : (n : ℕ) (k : RelocationKind) → kind_of n ≡ Some k → n ≡ kind_number k
 kind_is zero k e = let same : Insn Branch ≡ k = cc in ap kind_number same
@@ -53,30 +54,30 @@ made_is bytes None r e = absurd cc
 made_is bytes (Some k) r e = (k, refl, cc)
 
 -- the thirteen bytes of a relocation, and those behind them
-thirteen : (bytes : List ℕ) → IsBytes bytes → 13 ≤ length bytes
+relocation_bytes-whole : (bytes : List ℕ) → IsBytes bytes → 13 ≤ length bytes
     → bytes ≡ slice_index bytes 0 ∷ (longword (longword_at 1 bytes)
     ++ (longword (longword_at 5 bytes) ++ (longword (longword_at 9 bytes) ++ drop 13 bytes)))
-thirteen bytes fits long =
+relocation_bytes-whole bytes fits long =
     first_byte bytes (omega arith)
     ∙ ap (λ (t : List ℕ). slice_index bytes 0 ∷ t) (drop-longword bytes 1 5 fits (omega arith) refl
     ∙ ap (λ (t : List ℕ). longword (longword_at 1 bytes) ++ t) (drop-longword bytes 5 9 fits (omega arith) refl
     ∙ ap (λ (t : List ℕ). longword (longword_at 5 bytes) ++ t) (drop-longword bytes 9 13 fits long refl)))
 
-regroup : (b : ℕ) (x y w rest : List ℕ) → b ∷ (x ++ (y ++ (w ++ rest))) ≡ (b ∷ (x ++ (y ++ w))) ++ rest
-regroup b x y w rest = ap (λ (t : List ℕ). b ∷ t) (simp append_assoc)
+append_assoc-behind_byte : (b : ℕ) (x y w rest : List ℕ) → b ∷ (x ++ (y ++ (w ++ rest))) ≡ (b ∷ (x ++ (y ++ w))) ++ rest
+append_assoc-behind_byte b x y w rest = ap (λ (t : List ℕ). b ∷ t) (simp append_assoc)
 
 spelled_so : (bytes : List ℕ) (k : RelocationKind) → IsBytes bytes → 13 ≤ length bytes
     → kind_of (slice_index bytes 0) ≡ Some k → bytes ≡ relocation_bytes (made_relocation bytes k) ++ drop 13 bytes
 unfolding relocation_bytes
 spelled_so bytes k fits long is =
-    thirteen bytes fits long
+    relocation_bytes-whole bytes fits long
     ∙ (ap (λ (b : ℕ). b ∷ (longword (longword_at 1 bytes)
     ++ (longword (longword_at 5 bytes) ++ (longword (longword_at 9 bytes) ++ drop 13 bytes))))
     (kind_is (slice_index bytes 0) k is)
     ∙ (ap (λ (n : ℕ). kind_number k
     ∷ (longword (longword_at 1 bytes) ++ (longword (longword_at 5 bytes) ++ (longword n ++ drop 13 bytes))))
     (sym (of_z-to_z w32 (longword_at 9 bytes) (longword_at-lt 9 bytes fits)))
-    ∙ regroup (kind_number k) (longword (longword_at 1 bytes)) (longword (longword_at 5 bytes))
+    ∙ append_assoc-behind_byte (kind_number k) (longword (longword_at 1 bytes)) (longword (longword_at 5 bytes))
     (longword (cast_unsigned w32 (cast_signed w32 (longword_at 9 bytes)))) (drop 13 bytes)))
 
 relocation_takes : (total : ℕ) (z : Sizes) (b : Body)
@@ -110,18 +111,18 @@ addend_small : (a : ℤ) → is_addend a ≡ true → cast_unsigned w32 a < 2 ^ 
 addend_small (pos n) e = let h = ltb-true n (2 ^ 31) e in omega arith
 addend_small (negsuc n) e = let h = ltb-true n (2 ^ 31 - 1) e in omega arith
 
-pub second_true : (a b : Bool) → (a && b) ≡ true → b ≡ true
-second_true true b e = e
-second_true false b e = absurd cc
+pub and-second_true : (a b : Bool) → (a && b) ≡ true → b ≡ true
+and-second_true true b e = e
+and-second_true false b e = absurd cc
 
-pub first_true : (a b : Bool) → (a && b) ≡ true → a ≡ true
-first_true true b e = refl
-first_true false b e = absurd cc
+pub and-first_true : (a b : Bool) → (a && b) ≡ true → a ≡ true
+and-first_true true b e = refl
+and-first_true false b e = absurd cc
 
 addend_of : (z : Sizes) (b : Body) (before : List Relocation) (r : Relocation) → relocation_fits z b before r ≡ true
     → is_addend r.addend ≡ true
 unfolding relocation_fits
-addend_of z b before r e = first_true _ _ (second_true _ _ e)
+addend_of z b before r e = and-first_true _ _ (and-second_true _ _ e)
 
 length-relocation_bytes : (r : Relocation) → length (relocation_bytes r) ≡ 13
 unfolding relocation_bytes longword

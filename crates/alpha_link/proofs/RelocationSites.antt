@@ -21,14 +21,14 @@ use Rattle.alpha_link.specs.Relocations.{Body, body, stands_at, follows, follows
 use Rattle.alpha_link.specs.Parts.{AreGood}
 use Rattle.alpha_link.specs.Linked.{Located, use_of, displacement, insn_with, code_at, code_after}
 use Rattle.alpha_link.specs.Output.{code_with_all}
-use Rattle.alpha_link.proofs.MadeSymbols.{last_append}
-use Rattle.alpha_link.proofs.RelocationBytes.{first_true, second_true}
+use Rattle.alpha_link.proofs.SourceSymbols.{last_append}
+use Rattle.alpha_link.proofs.RelocationBytes.{and-first_true, and-second_true}
 use Rattle.alpha_link.proofs.ShiftedRelocations.{code_at_shift}
 
 -- the code behind the last relocation so far is as the module has it
-abbrev pub Fresh : Option Relocation → List Form → List Form → Type 0
-Fresh None own code = (k : ℕ) → slice_get code k ≡ slice_get own k
-Fresh (Some last) own code =
+abbrev pub IsUnchangedBehind : Option Relocation → List Form → List Form → Type 0
+IsUnchangedBehind None own code = (k : ℕ) → slice_get code k ≡ slice_get own k
+IsUnchangedBehind (Some last) own code =
     is_some (use_of last.kind) ≡ true → (k : ℕ) → last.offset < 4 * k → slice_get code k ≡ slice_get own k
 
 follows_insn : (k l : RelocationKind) (a b : ℕ) → is_some (use_of l) ≡ true → follows k a l b ≡ true
@@ -39,7 +39,7 @@ follows_insn (Insn other) (Insn by) a b i f = (refl, ltb-true a b f)
 
 fresh_behind : (o : Option Relocation) (own code : List Form) (r : Relocation) → is_some (use_of r.kind) ≡ true
     → option_map_or (λ last. follows last.kind last.offset r.kind r.offset) o true ≡ true
-    → Fresh o own code → (k : ℕ) → r.offset ≤ 4 * k → slice_get code k ≡ slice_get own k
+    → IsUnchangedBehind o own code → (k : ℕ) → r.offset ≤ 4 * k → slice_get code k ≡ slice_get own k
 fresh_behind None own code r insn f fresh k h = fresh k
 fresh_behind (Some last) own code r insn f fresh k h =
     let (so, below) = follows_insn last.kind r.kind last.offset r.offset insn f in
@@ -64,11 +64,11 @@ taken_with : (field : RelocField) (d : Displacement) (place : ℕ) (code : List 
 taken_with field d place code None taken = absurd cc
 taken_with field d place code (Some insn) taken = rw taken refl
 
-taken : (field : RelocField) (o : Option Displacement) (place : ℕ) (code : List Form)
+code_at_any-takes : (field : RelocField) (o : Option Displacement) (place : ℕ) (code : List Form)
     → option_map_or (takes field) (slice_get code place) false ≡ true
     → code_at_any o place code ≡ code_at (Insn field) place o code
-taken field None place code t = refl
-taken field (Some d) place code t = taken_with field d place code (slice_get code place) t
+code_at_any-takes field None place code t = refl
+code_at_any-takes field (Some d) place code t = taken_with field d place code (slice_get code place) t
 
 -- what is put in changes no other place
 get_other : {A : Type 0} (xs : List A) (p k : ℕ) (x : A) → p ≢ k → slice_get (slice_set xs p x) k ≡ slice_get xs k
@@ -94,8 +94,8 @@ good_stands : (z : Sizes) (b : Body) (before : List Relocation) (r : Relocation)
     → (stands_at b r.kind r.offset ≡ true) × (follows_all before r ≡ true)
 unfolding relocation_fits
 good_stands z b before r e =
-    let both = second_true _ _ (second_true _ _ e) in
-    (first_true _ _ both, second_true _ _ both)
+    let both = and-second_true _ _ (and-second_true _ _ e) in
+    (and-first_true _ _ both, and-second_true _ _ both)
 
 no_displacement : (addresses : List (Option ℕ)) (l : Located) (r : Relocation) → use_of r.kind ≡ None
     → displacement addresses l r ≡ None
@@ -107,18 +107,18 @@ one_put : (kind : RelocationKind) (offset : ℕ) (words bytes : List ℕ) (own c
     → (use_of kind ≡ None → d ≡ None)
     → code_at_any d (offset / 4) code ≡ code_at kind (offset / 4) d code
 one_put (Insn by) offset words bytes own code d known stands fresh none =
-    let place : offset ≤ 4 * (offset / 4) = omega (arith, eqb-true (offset % 4) 0 (first_true _ _ stands)) in
+    let place : offset ≤ 4 * (offset / 4) = omega (arith, eqb-true (offset % 4) 0 (and-first_true _ _ stands)) in
     let here : slice_get code (offset / 4) ≡ option_and_then decoded (slice_get words (offset / 4)) =
     fresh refl (offset / 4) place ∙ sym (insn_there words own known (offset / 4)) in
-    taken by d (offset / 4) code
-    (ap (λ (o : Option Form). option_map_or (takes by) o false) here ∙ second_true (offset % 4 == 0) _ stands)
+    code_at_any-takes by d (offset / 4) code
+    (ap (λ (o : Option Form). option_map_or (takes by) o false) here ∙ and-second_true (offset % 4 == 0) _ stands)
 one_put Quad offset words bytes own code d known stands fresh none = rw (none refl) refl
 
 -- the addresses of a module put in behind other code
 pub takes_all : (addresses : List (Option ℕ)) (l : Located) (z : Sizes) (words bytes : List ℕ) (own old : List Form)
     → l.words ≡ length old → map decoded words ≡ map Some own
     → (before rs : List Relocation) (code : List Form) → AreGood (IsRelocation z (body words bytes)) before rs
-    → Fresh (slice_get before (length before - 1)) own code
+    → IsUnchangedBehind (slice_get before (length before - 1)) own code
     → code_with_all addresses l rs (old ++ code) ≡ old ++ code_after addresses l rs code
 takes_all addresses l z words bytes own old here known before [] code good fresh = refl
 takes_all addresses l z words bytes own old here known before (r ∷ rs) code (good, rest) fresh =
@@ -131,12 +131,12 @@ takes_all addresses l z words bytes own old here known before (r ∷ rs) code (g
     let one : code_at_any d place code ≡ code_at r.kind place d code =
     one_put r.kind r.offset words bytes own code d known stands clean (no_displacement addresses l r) in
     let next = code_at r.kind place d code in
-    let later : Fresh (Some r) own next =
+    let later : IsUnchangedBehind (Some r) own next =
     λ so k h. code_at_other r.kind d place k code (λ e. omega (arith, e, h)) ∙ clean so k (omega (arith, h)) in
     ap (λ (n : ℕ). code_with_all addresses l rs (code_at_any d (n + place) (old ++ code))) here
     ∙ (ap (code_with_all addresses l rs) (code_at_shift old code place d ∙ ap (λ (c : List Form). old ++ c) one)
     ∙ takes_all addresses l z words bytes own old here known (before ++ r ∷ []) rs next rest
-    (subst (λ (o : Option Relocation). Fresh o own next) (sym (last_append before r)) later))
+    (subst (λ (o : Option Relocation). IsUnchangedBehind o own next) (sym (last_append before r)) later))
 
 -- putting addresses in leaves how many instructions there are
 length-code_at : (kind : RelocationKind) (p : ℕ) (o : Option Displacement) (code : List Form)

@@ -24,7 +24,7 @@ use Rattle.alpha_asm.proofs.FinishedProgram.{names-all}
 use Rattle.alpha_link.specs.declared.keyed.KeyedName.{KeyedName}
 use Rattle.alpha_link.specs.SortedNames.{Rise}
 use Rattle.alpha_link.specs.Made.{labels_in, references_in, all_names}
-use Rattle.alpha_link.proofs.Repeats.{distinct_names}
+use Rattle.alpha_link.proofs.DistinctNames.{distinct_names}
 use Rattle.alpha_link.proofs.SortedNames.{rising_is, dedup_any}
 
 same_way : (a b : List ℕ) → bytes_eq a b ≡ bytes_eq b a
@@ -43,11 +43,13 @@ same_way a b = by (bytes_eq a b) refl (bytes_eq b a) refl
         cc
 
 -- a label that items define is among those
-found : (q : List ℕ) (l : Option (List ℕ)) (s : LabelLocation) (rest : Option LabelLocation) (more : List (List ℕ))
+defined-list_any : (q : List ℕ) (l : Option (List ℕ)) (s : LabelLocation) (rest : Option LabelLocation)
+    (more : List (List ℕ))
     → is_some rest ≡ list_any (bytes_eq q) more
     → is_some (option_or (cond (has_label q l) (Some s) None) rest) ≡ list_any (bytes_eq q) (cons_option l more)
-found q None s rest more e = e
-found q (Some l) s rest more e = by (bytes_eq l q) refl ∙ ap (λ b. b || list_any (bytes_eq q) more) (same_way l q)
+defined-list_any q None s rest more e = e
+defined-list_any q (Some l) s rest more e =
+    by (bytes_eq l q) refl ∙ ap (λ b. b || list_any (bytes_eq q) more) (same_way l q)
   where
     by : (b : Bool) → bytes_eq l q ≡ b
         → is_some (option_or (cond b (Some s) None) rest) ≡ (b || list_any (bytes_eq q) more)
@@ -56,21 +58,23 @@ found q (Some l) s rest more e = by (bytes_eq l q) refl ∙ ap (λ b. b || list_
 
 defined_any : (q : List ℕ) (xs : List Placed) → is_some (location_of xs q) ≡ list_any (bytes_eq q) (labels_in xs)
 defined_any q [] = refl
-defined_any q (x ∷ xs) = found q x.item.label (location x.place) (location_of xs q) (labels_in xs) (defined_any q xs)
+defined_any q (x ∷ xs) =
+    defined-list_any q x.item.label (location x.place) (location_of xs q) (labels_in xs) (defined_any q xs)
 
-pub map_any : {A B : Type 0} (p : B → Bool) (f : A → B) (xs : List A)
+pub list_any-map_names : {A B : Type 0} (p : B → Bool) (f : A → B) (xs : List A)
     → list_any p (map f xs) ≡ list_any (λ x. p (f x)) xs
-map_any p f [] = refl
-map_any p f (x ∷ xs) = ap (λ b. p (f x) || b) (map_any p f xs)
+list_any-map_names p f [] = refl
+list_any-map_names p f (x ∷ xs) = ap (λ b. p (f x) || b) (list_any-map_names p f xs)
 
 named_any : (q : List ℕ) (is : List LineStmt) (ps : List Patch) → map fix_of ps ≡ fixes 0 (layout is)
     → list_any (λ p. bytes_eq q p.to.label.now) ps ≡ list_any (bytes_eq q) (references_in (layout is))
 named_any q is ps e =
     let f : Fix → Bool = λ x. bytes_eq q x.name.reference.label in
     let g : Name → Bool = λ x. bytes_eq q x.reference.label in
-    sym (map_any f fix_of ps) ∙ ap (list_any f) e ∙ sym (map_any g (λ (x : Fix). x.name) (fixes 0 (layout is)))
+    sym (list_any-map_names f fix_of ps) ∙ ap (list_any f) e
+    ∙ sym (list_any-map_names g (λ (x : Fix). x.name) (fixes 0 (layout is)))
     ∙ ap (list_any g) (names-all 0 (layout is))
-    ∙ sym (map_any (bytes_eq q) (λ (n : Name). n.reference.label) (flat_map names_in (layout is)))
+    ∙ sym (list_any-map_names (bytes_eq q) (λ (n : Name). n.reference.label) (flat_map names_in (layout is)))
 
 -- beside the labels that are defined, those without a definition are all that are named
 undefined_any : (known : List ℕ → Option LabelLocation) (q : List ℕ) (ps : List Patch)
@@ -139,4 +143,4 @@ pub sorted_among : (ks : List KeyedName) (names : List (Bor (List ℕ)))
     → are_among (distinct_names (map (λ k. k.name) ks)) q ≡ are_among names q
 sorted_among ks names same q =
     dedup_any q (map (λ (k : KeyedName). k.name) ks)
-    ∙ (map_any (λ (n : Bor (List ℕ)). bytes_eq q n.now) (λ (k : KeyedName). k.name) ks ∙ same q)
+    ∙ (list_any-map_names (λ (n : Bor (List ℕ)). bytes_eq q n.now) (λ (k : KeyedName). k.name) ks ∙ same q)

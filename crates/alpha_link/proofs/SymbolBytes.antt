@@ -11,7 +11,8 @@ use Rattle.std.proofs.lemmas.List.{length-append, length-take-le, length-drop, d
 use Rattle.std.proofs.lemmas.List.{take-append-drop}
 use Rattle.alpha_image.specs.Layout.{longword}
 use Rattle.alpha_image.specs.Reading.{longword_at}
-use Rattle.alpha_image.proofs.Numbers.{IsBytes, IsBytes-drop, longword_at-lt, longword_at-front, drop-longword}
+use Rattle.alpha_image.proofs.LittleEndianNumbers.{IsBytes, IsBytes-drop, longword_at-lt, longword_at-front}
+use Rattle.alpha_image.proofs.LittleEndianNumbers.{drop-longword}
 use Rattle.alpha_link.specs.declared.fault.ModuleFault.TheVariants as faults
 use Rattle.alpha_link.specs.declared.header.Sizes.{Sizes}
 use Rattle.alpha_link.specs.declared.symbol.SymbolHeader.{SymbolHeader}
@@ -23,9 +24,9 @@ use Rattle.alpha_link.specs.Symbols.{Named, section_of, section_number, symbol_f
 use Rattle.alpha_link.specs.Symbols.{good_symbol}
 use Rattle.alpha_link.specs.Symbols.{symbol_at, symbol_bytes, IsSymbol}
 use Rattle.alpha_link.specs.Listed.{symbol_from}
-use Rattle.alpha_link.proofs.Results.{bind_ok, gave-injective, pair_is, unless_err, cond-Ok, taken_ok}
-use Rattle.alpha_link.proofs.Formats.{IsFormat}
-use Rattle.alpha_link.proofs.Numbers.{halfword_at-front, drop-halfword, first_byte}
+use Rattle.alpha_link.proofs.ReadingResults.{bind_ok, gave-injective, pair_is, unless_err, cond-Ok, taken_ok}
+use Rattle.alpha_link.proofs.ItemLists.{IsFormat}
+use Rattle.alpha_link.proofs.TwoByteNumbers.{halfword_at-front, drop-halfword, first_byte}
 
 section_is : (n : ℕ) (s : SymbolSection) → section_of n ≡ Some s → n ≡ section_number s
 section_is zero s e = let same : Code ≡ s = cc in ap section_number same
@@ -63,8 +64,9 @@ front_bytes bytes fits long =
     ∙ ap (λ (t : List ℕ). slice_index bytes 0 ∷ t) (drop-halfword bytes 1 3 fits (omega arith) refl
     ∙ ap (λ (t : List ℕ). halfword (halfword_at 1 bytes) ++ t) (drop-longword bytes 3 7 fits long refl))
 
-regroup : (b : ℕ) (h l name rest : List ℕ) → b ∷ (h ++ (l ++ (name ++ rest))) ≡ (b ∷ (h ++ (l ++ name))) ++ rest
-regroup b h l name rest = ap (λ (t : List ℕ). b ∷ t) (simp append_assoc)
+append_assoc-behind_byte : (b : ℕ) (h l name rest : List ℕ)
+    → b ∷ (h ++ (l ++ (name ++ rest))) ≡ (b ∷ (h ++ (l ++ name))) ++ rest
+append_assoc-behind_byte b h l name rest = ap (λ (t : List ℕ). b ∷ t) (simp append_assoc)
 
 -- the bytes of what was made of a front and a name
 spelled_so : (bytes name rest : List ℕ) (t : SymbolSection) → IsBytes bytes → 7 ≤ length bytes
@@ -77,7 +79,7 @@ spelled_so bytes name rest t fits long section size behind =
     (section_is (slice_index bytes 0) t section)
     ∙ (ap (λ (n : ℕ). section_number t ∷ (halfword n ++ (longword (longword_at 3 bytes) ++ drop 7 bytes))) (sym size)
     ∙ (ap (λ (r : List ℕ). section_number t ∷ (halfword (length name) ++ (longword (longword_at 3 bytes) ++ r))) behind
-    ∙ regroup (section_number t) (halfword (length name)) (longword (longword_at 3 bytes)) name rest)))
+    ∙ append_assoc-behind_byte (section_number t) (halfword (length name)) (longword (longword_at 3 bytes)) name rest)))
 
 abbrev behind_name : Sizes → List Named → SymbolHeader → List ℕ × List ℕ → Read Named
 behind_name z before front name =

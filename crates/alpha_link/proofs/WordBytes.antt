@@ -19,14 +19,14 @@ use Rattle.alpha_image.proofs.CodeInsns.{words_of_insns}
 use Rattle.alpha_table.specs.declared.form.Form.{Form}
 use Rattle.alpha_table.specs.Decoded.{decoded}
 use Rattle.alpha_table.specs.Encoded.{encoded}
-use Rattle.alpha_image.proofs.Numbers.{IsBytes, IsBytes-drop, IsBytes-take}
+use Rattle.alpha_image.proofs.LittleEndianNumbers.{IsBytes, IsBytes-drop, IsBytes-take}
 use Rattle.alpha_image.proofs.CodeWords.{length-words_of, All-word_fault, word_fault-All, words_of-lt}
 use Rattle.alpha_image.proofs.CodeWords.{words_of-flat_map, flat_map-words_of, length-flat_map_longword}
 use Rattle.alpha_image.proofs.CodeWords.{option_map-none}
 use Rattle.alpha_link.specs.declared.fault.ModuleFault.TheVariants.{Cut}
 use Rattle.alpha_link.specs.Reading.{Read, and_then, taken, IsRefusal}
 use Rattle.alpha_link.specs.Spelled.{fault_of_words, unless_bad, words_at}
-use Rattle.alpha_link.proofs.Results.{bind_ok, ok_pair, taken_ok, pair_is}
+use Rattle.alpha_link.proofs.ReadingResults.{bind_ok, ok_pair, taken_ok, pair_is}
 
 no_bad_word : {X : Type 0} (o : Option ℕ) (read : Read X) (y : X × List ℕ) → unless_bad o read ≡ Ok y
     → (o ≡ None) × (read ≡ Ok y)

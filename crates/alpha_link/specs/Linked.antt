@@ -175,8 +175,8 @@ repeated earlier (l ∷ ls) =
     (repeated (earlier ++ l ∷ []) ls)
 
 -- the least symbol that no module defines
-abbrev pub missing : List Located → Option (ℕ × ℕ)
-missing ls = first (symbol_in (λ _ s. is_none (address_of ls s.name))) ls
+abbrev pub first_unresolved : List Located → Option (ℕ × ℕ)
+first_unresolved ls = first (symbol_in (λ _ s. is_none (address_of ls s.name))) ls
 
 -- whether what a relocation needs is there
 abbrev pub is_in_range : List (Option ℕ) → Located → Relocation → Bool
@@ -214,4 +214,4 @@ unfoldable pub linked : List ModuleParts → List ℕ → Result Program LinkFau
 linked ms entry =
     let ls = places ms in
     unless_refused (option_map (λ p. Duplicate p.0 p.1) (repeated [] ls))
-    (unless_refused (option_map (λ p. Undefined p.0 p.1) (missing ls)) (linked_at ls (entry_of ls entry)))
+    (unless_refused (option_map (λ p. Undefined p.0 p.1) (first_unresolved ls)) (linked_at ls (entry_of ls entry)))

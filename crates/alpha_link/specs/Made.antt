@@ -114,10 +114,11 @@ bad_field words filled zeroed =
     ∷ [])
 
 -- parts whose sizes are not too great, or the refusal
-abbrev pub sized : ModuleParts → Result ModuleParts AsmFault
-sized m = unless (option_map ImageField (bad_field (length m.words) (length m.bytes) m.zeroed)) (Ok m)
+abbrev pub module_within_limits : ModuleParts → Result ModuleParts AsmFault
+module_within_limits m = unless (option_map ImageField (bad_field (length m.words) (length m.bytes) m.zeroed)) (Ok m)
 
 -- the module that a source makes, or its first refusal
 unfoldable pub made_module : List ℕ → Result ModuleParts AsmFault
 made_module source =
-    unless (first_refused source_kinds.Module [] (lines source)) (sized (module_of (map item_at (lines source))))
+    unless (first_refused source_kinds.Module [] (lines source))
+    (module_within_limits (module_of (map item_at (lines source))))

@@ -37,7 +37,7 @@ fn own_address(located: &Located<'_>, number: usize) -> Option<u64>
 
 impl<'p, 'm> Addresses<'p, 'm> {
     /// The addresses at which a module defines its symbols.
-    pub(crate) fn own(located: &'p Located<'m>) -> Addresses<'p, 'm>
+    pub(crate) fn of_module(located: &'p Located<'m>) -> Addresses<'p, 'm>
         ensures { result ≡ map (λ s. section_address located.entry.now s.section s.offset)
             located.entry.now.parts.symbols }
     {
@@ -48,7 +48,7 @@ impl<'p, 'm> Addresses<'p, 'm> {
     }
 
     /// These addresses.
-    pub(crate) fn listed(located: &'p Located<'m>, addresses: Vec<u64>) -> Addresses<'p, 'm>
+    pub(crate) fn new(located: &'p Located<'m>, addresses: Vec<u64>) -> Addresses<'p, 'm>
         ensures { result ≡ map Some addresses.items }
     {
         Addresses {

@@ -46,11 +46,11 @@
 //! `module.rt` has what a module is, `fault.rt` why there is none or no image of some, and `laws.rt` the laws.
 //! `header.rt` has the sizes at the front, `symbol.rt` and `relocation.rt` have what symbols and
 //! relocations are, `symbol_list.rt` has the symbols of a module, `symbols.rt` and `relocations.rt` read and write
-//! them, `number.rt` has numbers of two bytes; `read.rt` and `write.rt` are the ways in and out, and `judged.rt`
-//! has the verdict.
+//! them, `number.rt` has numbers of two bytes; `read.rt` and `write.rt` are the ways in and out, and
+//! `module_verdict.rt` has the verdict.
 //! A module of a source is `source_module.rt`. `labels.rt` numbers the labels that the source defines or names, and
-//! `made_relocations.rt` makes relocations by these numbers; `keyed.rt` sorts the labels, which `radix.rt`
-//! puts in the order of their keys first where they stand in many runs; and `made_symbols.rt` makes their
+//! `source_relocations.rt` makes relocations by these numbers; `keyed.rt` sorts the labels, which `radix.rt`
+//! puts in the order of their keys first where they stand in many runs; and `source_symbols.rt` makes their
 //! symbols, and the ranks that go into the relocations.
 //!
 //! `located.rt` says where each module stands among those that are linked. The symbols of all of them stand
@@ -77,14 +77,14 @@ mod addresses;
 mod fault;
 mod global_symbols;
 mod header;
-mod judged;
+mod module_verdict;
 mod keyed;
 mod labels;
 mod laws;
 mod linker;
 mod located;
-mod made_relocations;
-mod made_symbols;
+mod source_relocations;
+mod source_symbols;
 mod module;
 mod names;
 mod number;
@@ -103,7 +103,7 @@ mod write;
 
 pub use alpha_asm::{RelocField, RelocationKind};
 pub use fault::{LinkFault, ModuleFault};
-pub use judged::verdict;
+pub use module_verdict::verdict;
 pub use laws::{laws_of_joined_code, laws_of_linked_code, laws_of_modules};
 pub use linker::link;
 pub use module::Module;

@@ -5,7 +5,8 @@ ghost use Rattle.std.specs.Option.{option_map};
 ghost use Rattle.alpha_image.specs.Fields.{level_numbers};
 ghost use Rattle.alpha_asm.specs.Program.{program_of, program_with};
 ghost use Rattle.alpha_link.specs.declared.fault.LinkFault.TheVariants as faults;
-ghost use Rattle.alpha_link.specs.Linked.{places, address_of, missing, out_of_range, entry_of, words_in, filled_in};
+ghost use Rattle.alpha_link.specs.Linked.{places, address_of, first_unresolved, out_of_range, entry_of, words_in};
+ghost use Rattle.alpha_link.specs.Linked.{filled_in};
 ghost use Rattle.alpha_link.specs.Linked.{zeroed_in, linked_at, linked};
 ghost use Rattle.alpha_link.specs.Addresses.{AllKnow};
 ghost use Rattle.alpha_link.specs.Names.{found_in};
@@ -62,10 +63,10 @@ impl Totals {
 fn first_undefined<'m>(names: &Names<'_, 'm>, places: &[Located<'m>]) -> Option<LinkFault>
     requires names { (name : List ℕ) → found_in names.now name ≡ address_of places.now name }
     requires own { AllKnow (found_in names.now) places.now }
-    ensures { result ≡ option_map (λ p. faults.Undefined p.0 p.1) (missing places.now) }
+    ensures { result ≡ option_map (λ p. faults.Undefined p.0 p.1) (first_unresolved places.now) }
 {
     for located in places {
-        if let Some(number) = names.missing(located) {
+        if let Some(number) = names.first_unresolved(located) {
             return Some(LinkFault::Undefined(located.number, number));
         }
     }

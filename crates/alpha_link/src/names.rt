@@ -157,7 +157,7 @@ impl<'p, 'm> Names<'p, 'm> {
     }
 
     /// The least symbol of a module whose name has no address.
-    pub(crate) fn missing(&self, located: &Located<'m>) -> Option<u32>
+    pub(crate) fn first_unresolved(&self, located: &Located<'m>) -> Option<u32>
         requires { Knows (found_in self.now) located.now }
         ensures { result ≡ position (λ s. is_none (found_in self.now s.name))
             located.now.parts.symbols }
@@ -203,10 +203,10 @@ impl<'p, 'm> Names<'p, 'm> {
     {
         let module = located.module;
         if defines_all(&module.symbols) {
-            return Ok(Addresses::own(located));
+            return Ok(Addresses::of_module(located));
         }
         let listed = self.addresses_of(alloc, located)?;
-        Ok(Addresses::listed(located, listed))
+        Ok(Addresses::new(located, listed))
     }
 }
 

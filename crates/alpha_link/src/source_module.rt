@@ -5,13 +5,13 @@ ghost use Rattle.alpha_words.specs.declared.Level.TheVariants.{One};
 ghost use Rattle.alpha_image.specs.Insns.{IsCodeInsn};
 ghost use Rattle.alpha_asm.specs.Unlinked.{IsUnlinkedOf};
 ghost use Rattle.alpha_asm.specs.declared.fault.AsmFault.TheVariants as faults;
-ghost use Rattle.alpha_link.specs.Made.{bad_field, sized, module_of, made_module};
+ghost use Rattle.alpha_link.specs.Made.{bad_field, module_within_limits, module_of, made_module};
 ghost use Rattle.alpha_link.specs.Unlinked.{IsOfLines};
 
 use crate::header::{MOST_DATA, MOST_WORDS};
 use crate::keyed::by_keys;
-use crate::made_relocations::{Numbered, put_ranks};
-use crate::made_symbols::Ranked;
+use crate::source_relocations::{Numbered, put_ranks};
+use crate::source_symbols::Ranked;
 use crate::module::Module;
 use crate::symbol_list::SymbolList;
 use alpha_asm::{AsmFault, Unlinked};
@@ -70,14 +70,14 @@ fn module_of<'a>(alloc: Global, unlinked: Unlinked<'a>) -> Result<Module<'a>, No
 }
 
 // The module of what was read, unless its sizes are too great.
-fn sized<'a>(alloc: Global, unlinked: Unlinked<'a>) -> Result<Module<'a>, AsmFault>
+fn module_within_limits<'a>(alloc: Global, unlinked: Unlinked<'a>) -> Result<Module<'a>, AsmFault>
     requires few { length unlinked.bytes.items ≤ unlinked.filled }
     requires lines { IsOfLines unlinked }
     requires level { All (IsCodeInsn One) unlinked.code.items }
-    ensures ok { IfOk result (λ m. (is : _) → IsUnlinkedOf is unlinked.entry → sized (module_of is)
+    ensures ok { IfOk result (λ m. (is : _) → IsUnlinkedOf is unlinked.entry → module_within_limits (module_of is)
         ≡ Ok m) }
     ensures refused { IfErr result (λ fault. fault ≢ faults.NoMemory →
-        (is : _) → IsUnlinkedOf is unlinked.entry → sized (module_of is) ≡ Err fault) }
+        (is : _) → IsUnlinkedOf is unlinked.entry → module_within_limits (module_of is) ≡ Err fault) }
 {
     let bad = bad_field(unlinked.code.len(), unlinked.filled, unlinked.zeroed);
     if let Some(field) = bad {
@@ -101,5 +101,5 @@ pub fn make_module<'a>(alloc: Global, source: &'a [u8]) -> Result<Module<'a>, As
     ensures refused { IfErr result (λ fault. fault ≢ faults.NoMemory → made_module source.now
         ≡ Err fault) }
 {
-    sized(alloc, Unlinked::of(alloc, source)?)
+    module_within_limits(alloc, Unlinked::of(alloc, source)?)
 }

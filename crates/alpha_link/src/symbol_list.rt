@@ -89,7 +89,7 @@ fn symbol_from(bytes: &[u8]) -> Symbol<'_>
 }
 
 // One of the symbols of a source.
-fn made_at<'a>(symbols: &[Symbol<'a>], number: usize) -> Symbol<'a>
+fn source_symbol_at<'a>(symbols: &[Symbol<'a>], number: usize) -> Symbol<'a>
     requires { number < length (map named symbols.now) }
     ensures { slice_get (map named symbols.now) number ≡ Some (named result) }
 {
@@ -188,7 +188,7 @@ impl<'a> SymbolList<'a> {
         ensures { slice_get self.now number ≡ Some (named result) }
     {
         match &self.origin {
-            Origin::Made(symbols) => made_at(symbols, number),
+            Origin::Made(symbols) => source_symbol_at(symbols, number),
             Origin::Read(symbols) => symbols.at(number),
         }
     }

@@ -147,20 +147,21 @@ pub answers_align : (ss : List Shape) (intent : Intent) (a n k : ℕ) → n ≡ 
     → Some Align ≡ fault_of ss intent a k
 answers_align ss intent a n k e h = sym (fault_of-unaligned ss intent a k (λ z. h (ap (λ j. a % j) e ∙ z)))
 
-judged : (ss : List Shape) (intent : Intent) (a n : ℕ) (size : Size) (there : Bool) → IsLayout ss → n ≡ size_of size
+fault_of-within : (ss : List Shape) (intent : Intent) (a n : ℕ) (size : Size) (there : Bool) → IsLayout ss
+    → n ≡ size_of size
     → a % n ≡ 0 → within ss intent a n ≡ there → fault_of ss intent a (size_of size) ≡ cond there None (Some Region)
-judged ss intent a n size there layout e aligned h =
+fault_of-within ss intent a n size there layout e aligned h =
     fault_of-aligned ss intent a (size_of size) layout (size_of-divides size) (ap (λ j. a % j) (sym e) ∙ aligned)
     ∙ ap (λ b. cond b None (Some Region)) (ap (λ j. within ss intent a j) (sym e) ∙ h)
 
 pub answers_none : (ss : List Shape) (intent : Intent) (a n : ℕ) (size : Size) → IsLayout ss → n ≡ size_of size
     → a % n ≡ 0 → within ss intent a n ≡ true → None ≡ fault_of ss intent a (size_of size)
-answers_none ss intent a n size layout e aligned h = sym (judged ss intent a n size true layout e aligned h)
+answers_none ss intent a n size layout e aligned h = sym (fault_of-within ss intent a n size true layout e aligned h)
 
 pub answers_region : (ss : List Shape) (intent : Intent) (a n : ℕ) (size : Size) → IsLayout ss → n ≡ size_of size
     → a % n ≡ 0 → (within ss intent a n ≡ true → ⊥) → Some Region ≡ fault_of ss intent a (size_of size)
 answers_region ss intent a n size layout e aligned h =
-    sym (judged ss intent a n size false layout e aligned (false_from_ne_true _ h))
+    sym (fault_of-within ss intent a n size false layout e aligned (false_from_ne_true _ h))
 
 -- an access with no fault is aligned, and each of its bytes lies in a block
 granted_by : (aligned each : Bool) → cond aligned (cond each None (Some Region)) (Some Align) ≡ None

@@ -12,7 +12,7 @@ use Rattle.alpha_mem.specs.Memory.{bytes_at, byte_at, write_bytes, IsFree, IsLay
 use Rattle.alpha_mem.proofs.Numbers as numbers
 use Rattle.alpha_mem.proofs.Faults as faults
 use Rattle.alpha_mem.proofs.Bytes as bytes
-use Rattle.alpha_mem.proofs.Places as places
+use Rattle.alpha_mem.proofs.BlockPlaces as places
 use Rattle.alpha_mem.proofs.Memories as memories
 
 -- a range of some bytes lies in one block

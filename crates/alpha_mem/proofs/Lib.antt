@@ -2,7 +2,7 @@ mod Numbers
 mod Blocks
 mod Faults
 mod Bytes
-mod Places
+mod BlockPlaces
 mod Writable
 mod Memories
 pub mod LawLemmas

@@ -13,7 +13,7 @@ use Rattle.alpha_mem.specs.Memory.{byte_at, write_bytes, IsFree, IsLayout, IsMem
 use Rattle.alpha_mem.proofs.Blocks.{holds-true, list_any-map, count_by-none}
 use Rattle.alpha_mem.proofs.Bytes.{bytes-has, byte_at-first, byte_at-rest, shapes-write_bytes}
 use Rattle.alpha_mem.proofs.Bytes.{byte_at-write_bytes_outside, byte_at-write_bytes_inside}
-use Rattle.alpha_mem.proofs.Places.{write_bytes-none}
+use Rattle.alpha_mem.proofs.BlockPlaces.{write_bytes-none}
 
 pub IsMemory-empty : IsMemory []
 unfolding byte_at

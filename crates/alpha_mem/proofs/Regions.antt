@@ -8,7 +8,7 @@ use Rattle.std.proofs.lemmas.List.Quantifiers.{position-Some}
 use Rattle.alpha_mem.specs.Block.{Block, shapes}
 use Rattle.alpha_mem.specs.Memory.{IsLayout}
 use Rattle.alpha_mem.proofs.Blocks.{list_any-weaker, all_units}
-use Rattle.alpha_mem.proofs.Places.{place-spans, is_some-position}
+use Rattle.alpha_mem.proofs.BlockPlaces.{place-spans, is_some-position}
 use Rattle.alpha_mem.proofs.Writable.{writable-takes, found_at, place_to_write}
 
 none_any : (p : Block → Bool) (xs : List Block) → ((k : ℕ) (d : Block) → k < length xs → p (get_or xs k d) ≡ false)

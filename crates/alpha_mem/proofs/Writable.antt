@@ -14,7 +14,8 @@ use Rattle.alpha_mem.specs.Block.{Block, shape_of, shapes, holds, within, overwr
 use Rattle.alpha_mem.specs.Memory.{write_bytes, IsLayout}
 use Rattle.alpha_mem.proofs.Blocks.{count_by-cons, holds-true, holds-from}
 use Rattle.alpha_mem.proofs.Faults.{within-readable, size_of-pos}
-use Rattle.alpha_mem.proofs.Places.{place-spans, is_some-position, within-writable, within-position, set-at_position}
+use Rattle.alpha_mem.proofs.BlockPlaces.{place-spans, is_some-position, within-writable, within-position}
+use Rattle.alpha_mem.proofs.BlockPlaces.{set-at_position}
 
 -- a store may write the block, which holds the range
 abbrev pub writable-takes : ℕ → ℕ → Block → Bool

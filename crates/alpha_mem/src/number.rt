@@ -13,12 +13,12 @@ pub fn number_of(bytes: &[u8]) -> u64
         [a, b] => u64::from(u16::from_le_bytes([a, b])),
         [a, b, c, d] => u64::from(u32::from_le_bytes([a, b, c, d])),
         [a, b, c, d, e, f, g, h] => u64::from_le_bytes([a, b, c, d, e, f, g, h]),
-        _ => padded(bytes),
+        _ => number_of_odd_length(bytes),
     }
 }
 
 // The number that bytes are of which no integer type has so many: 0, 3, 5, 6 or 7.
-fn padded(bytes: &[u8]) -> u64
+fn number_of_odd_length(bytes: &[u8]) -> u64
     requires { length bytes.now ≤ 8 }
     ensures { result ≡ little bytes.now }
 {

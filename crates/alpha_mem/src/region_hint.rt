@@ -18,13 +18,13 @@ impl Memory {
     /// What [`Memory::load`] answers. `in_range` is the number of a region, as that of the last access: the region that
     /// is looked at first. Which one it is changes no answer.
     #[inline(always)]
-    pub fn load_near(&self, region_hint: &mut usize, addr: u64, size: Size) -> Result<u64, MemFault>
+    pub fn load_with_hint(&self, region_hint: &mut usize, addr: u64, size: Size) -> Result<u64, MemFault>
         ensures fault { result_err result ≡ fault_of (shapes self.now) Load addr (size_of size) }
         ensures ok { IfOk result (λ v. v ≡ little (bytes_at self.now addr (size_of size))) }
         ensures good { IsMemory self.now }
     {
         let len = size.bytes();
-        let bytes = self.bytes_near(region_hint, addr, len);
+        let bytes = self.bytes_with_hint(region_hint, addr, len);
         if addr % len != 0 {
             return Err(MemFault::Align);
         }
@@ -36,7 +36,7 @@ impl Memory {
 
     /// What [`Memory::store`] does, with a region that is looked at first.
     #[inline(always)]
-    pub fn store_near(
+    pub fn store_with_hint(
         &mut self,
         region_hint: &mut usize,
         addr: u64,
@@ -67,7 +67,7 @@ impl Memory {
 
     // The bytes of a range that isn't empty, with a region that is looked at first.
     #[inline(always)]
-    fn bytes_near(&self, region_hint: &mut usize, addr: u64, len: u64) -> Option<&[u8]>
+    fn bytes_with_hint(&self, region_hint: &mut usize, addr: u64, len: u64) -> Option<&[u8]>
         requires some { 0 < len }
         ensures none { IsSome result ↔ IsTrue (within (shapes self.now) Load addr len) }
         ensures found { IfSome result (λ bytes. bytes.now ≡ bytes_at self.now addr len) }

@@ -48,13 +48,14 @@ before_end [] value k h = absurd (omega arith)
 before_end (x ∷ values) value zero h = refl
 before_end (x ∷ values) value (suc k) h = before_end values value k (omega arith)
 
-last : {X : Type 0} (values : List X) (value : X) → slice_get (values ++ value ∷ []) (length values) ≡ Some value
-last [] value = refl
-last (x ∷ values) value = last values value
+slice_get-push : {X : Type 0} (values : List X) (value : X)
+    → slice_get (values ++ value ∷ []) (length values) ≡ Some value
+slice_get-push [] value = refl
+slice_get-push (x ∷ values) value = slice_get-push values value
 
 at_end : {X : Type 0} (values : List X) (value : X) (k : ℕ) → k ≡ length values
     → slice_get (values ++ value ∷ []) k ≡ Some value
-at_end values value k e = ap (slice_get (values ++ value ∷ [])) e ∙ last values value
+at_end values value k e = ap (slice_get (values ++ value ∷ [])) e ∙ slice_get-push values value
 
 abbrev place_after : (p : List ℕ → Bool) (names : List (List ℕ)) (name : List ℕ) → Option ℕ → Option ℕ
 place_after p names name None = if p name then Some (length names) else None
@@ -160,13 +161,13 @@ any_first p (n ∷ names) =
     ≡ nat_lt (position_or_len p (map (λ m. m.now) (n ∷ names))) (length (map (λ m. m.now) (n ∷ names))))
     (λ held. grind (arith, held)) (λ fails. grind (arith, fails, rest))
 
-some_is : (b : Bool) (k : ℕ) → is_some (cond b (Some k) None) ≡ b
-some_is true k = refl
-some_is false k = refl
+is_some-cond : (b : Bool) (k : ℕ) → is_some (cond b (Some k) None) ≡ b
+is_some-cond true k = refl
+is_some-cond false k = refl
 
 pub any_has_place : (names : List (Bor (List ℕ))) (name : List ℕ) →
     list_any (λ n. bytes_eq name n.now) names ≡ is_some (position (bytes_eq name) (map (λ n. n.now) names))
 any_has_place names name =
     let ns : List (List ℕ) = map (λ n. n.now) names in
     any_first (bytes_eq name) names
-    ∙ sym (some_is (nat_lt (position_or_len (bytes_eq name) ns) (length ns)) (position_or_len (bytes_eq name) ns))
+    ∙ sym (is_some-cond (nat_lt (position_or_len (bytes_eq name) ns) (length ns)) (position_or_len (bytes_eq name) ns))

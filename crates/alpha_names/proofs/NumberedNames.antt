@@ -68,9 +68,10 @@ reads-position : (o : Option (Bor (List ℕ))) (name : List ℕ) → reads o nam
 reads-position None name e = absurd (not_both false e refl)
 reads-position (Some n) name e = ap Some ((bytes_eq-Decides n.now name).0 e)
 
-stands : (names : List (Bor (List ℕ))) (name : List ℕ) (k : ℕ) → is_named names name k ≡ true
+is_named-slice_get : (names : List (Bor (List ℕ))) (name : List ℕ) (k : ℕ) → is_named names name k ≡ true
     → slice_get (map (λ n. n.now) names) k ≡ Some name
-stands names name k e = slice_get-map (λ (n : Bor (List ℕ)). n.now) names k ∙ reads-position (slice_get names k) name e
+is_named-slice_get names name k e =
+    slice_get-map (λ (n : Bor (List ℕ)). n.now) names k ∙ reads-position (slice_get names k) name e
 
 named_so : (o : Option (Bor (List ℕ))) (name : List ℕ) → option_map (λ n. n.now) o ≡ Some name → reads o name ≡ true
 named_so None name e = absurd (none_is_some name e)
@@ -113,7 +114,7 @@ is_position names numbers all name =
     (λ none. by_option found (found ≡ position (bytes_eq name) ns) (λ e. e ∙ sym none)
     (λ k e.
     absurd (position-none_apart ns name k none
-    (stands names name k (numbering-sound numbers (is_named names name) name k e)))))
+    (is_named-slice_get names name k (numbering-sound numbers (is_named names name) name k e)))))
     (λ k e. first_is_found names numbers all name k e ∙ sym e)
 
 -- the number behind those of some names, and one more name there
@@ -143,7 +144,7 @@ absent_all : (names : List (Bor (List ℕ))) (find : Finder) (name : List ℕ) �
     (k : ℕ) → is_named names name k ≡ false
 absent_all names find name all none k =
     by_bool (is_named names name k) (is_named names name k ≡ false)
-    (λ held. absurd (none_is_some k (sym none ∙ all k name (stands names name k held))))
+    (λ held. absurd (none_is_some k (sym none ∙ all k name (is_named-slice_get names name k held))))
     (λ fails. fails)
 
 -- a further name is found, and the others as before
@@ -167,7 +168,7 @@ AreFoundBy-next names name old new all none grows = λ k other e.
     ap (λ (p : ℕ → Bool). new p other) (fun_ext so)
     ∙ grows.0 (is_named names other) other k
     (λ same. not_both (bytes_eq name.now other) ((bytes_eq-Decides name.now other).1 (sym same)) fails)
-    (all k other (stands names other k (sym (so k) ∙ here))))
+    (all k other (is_named-slice_get names other k (sym (so k) ∙ here))))
 
 -- the names are still found where one was to be added and wasn't
 pub found_still : (names : List (Bor (List ℕ))) (name : List ℕ) (old new : Finder) → AreFoundBy names old

@@ -19,7 +19,7 @@ use Rattle.alpha_operands.specs.Operands.{Slots, filled}
 use Rattle.alpha_operands.specs.Walk.{rest_of, is_empty, is_whole, head_of_kind, piece_behind, front_after, sign_after}
 use Rattle.alpha_operands.specs.Walk.{fault, go_on, taken, follow}
 use Rattle.alpha_operands.specs.Grammar.{IsOneOf, ContinuesOperand, Completes, Spells}
-use Rattle.alpha_operands.proofs.Fronts.{rest_of-is, longer_of}
+use Rattle.alpha_operands.proofs.PatternPrefixes.{rest_of-is, longer_of}
 
 -- each kind has its own number
 kind_at : ℕ → TokenKind

@@ -5,7 +5,7 @@ use Rattle.std.proofs.Math.Seq.{take-append_seam}
 use Rattle.alpha_token.specs.declared.token.TokenKind.TheVariants as kinds
 use Rattle.alpha_token.specs.Quoted.{IsText, IsString}
 use Rattle.alpha_token.specs.Tokens.{Lexeme, Tokens, End, Bad, Next, left_of, tokens}
-use Rattle.alpha_token.proofs.Texts.{StringsAmong, tokens-strings}
+use Rattle.alpha_token.proofs.QuotedTexts.{StringsAmong, tokens-strings}
 use Rattle.alpha_operands.specs.declared.piece.Piece.{Piece}
 use Rattle.alpha_operands.specs.declared.number.Sign.{Sign}
 use Rattle.alpha_operands.specs.declared.number.Sign.TheVariants as signs
@@ -13,7 +13,7 @@ use Rattle.alpha_operands.specs.Pieces.{kind_of}
 use Rattle.alpha_operands.specs.Shapes.{Pattern}
 use Rattle.alpha_operands.specs.Operands.{Slots, nothing, between_quotes, filled}
 use Rattle.alpha_operands.specs.Walk.{piece_behind, front_after, sign_after, is_whole, follow, operands}
-use Rattle.alpha_operands.proofs.Changes.{filled-changes}
+use Rattle.alpha_operands.proofs.SlotChanges.{filled-changes}
 use Rattle.alpha_operands.proofs.Grammar.{at_end, piece_behind-is, grammar-took, grammar-went}
 
 between-is : (string text : List ℕ) → string ≡ 34 ∷ (text ++ (34 ∷ [])) → between_quotes string ≡ text

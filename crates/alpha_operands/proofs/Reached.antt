@@ -5,7 +5,7 @@ use Prim.Native.Nat.{zero, suc}
 use Rattle.std.proofs.Math.Seq.{take-length}
 use Rattle.std.proofs.lemmas.List.{take-append-drop}
 use Rattle.alpha_token.specs.declared.token.TokenKind.{TokenKind}
-use Rattle.alpha_token.proofs.Choices.{cond-either}
+use Rattle.alpha_token.proofs.ConditionalChoices.{cond-either}
 use Rattle.alpha_operands.specs.declared.piece.Piece.{Piece}
 use Rattle.alpha_operands.specs.Pieces.{kind_of, same_kind, same_piece}
 use Rattle.alpha_operands.specs.Shapes.{Pattern}

@@ -38,7 +38,7 @@ static REGISTERS: [Row; 64] = rows! {
 };
 
 // The number beside a name.
-fn named(rows: &[Row], name: &[u8]) -> Option<u8>
+fn find_number(rows: &[Row], name: &[u8]) -> Option<u8>
     ensures { result ≡ named (map (λ r. (r.name.now, r.number)) rows.now) name.now }
 {
     for row in rows {
@@ -86,7 +86,7 @@ fn register_number(name: &[u8]) -> Option<u8>
 {
     match number_at(&REGISTERS, place_of(name), name) {
         Some(number) => Some(number),
-        None => named(&REGISTERS, name),
+        None => find_number(&REGISTERS, name),
     }
 }
 

@@ -71,7 +71,7 @@ fn halfword(sign: Sign, n: u64) -> Option<i16>
 }
 
 // The displacement in words of a branch over a distance in bytes, within its field.
-fn words(sign: Sign, distance: u64) -> Option<i32>
+fn branch_words(sign: Sign, distance: u64) -> Option<i32>
     ensures { result ≡ (if distance % 4 == 0 && in_range 4194304 4194300 sign distance
         then Some (words_of sign distance) else None) }
 {
@@ -87,7 +87,7 @@ fn words(sign: Sign, distance: u64) -> Option<i32>
 }
 
 // The PALcode call with this function.
-fn call(function: u64) -> Option<Number>
+fn palcode_call(function: u64) -> Option<Number>
     ensures { result ≡ (if nat_lt function (2 ^ 26)
         then option_map Call (call_of (decoded function)) else None) }
 {
@@ -102,7 +102,7 @@ fn call(function: u64) -> Option<Number>
 }
 
 // A value of data within its range, modulo 2^64.
-fn value(most: u64, least: u64, sign: Sign, n: u64) -> Option<Number>
+fn data_value(most: u64, least: u64, sign: Sign, n: u64) -> Option<Number>
     ensures { result ≡ if_in (in_range most least sign n) (Value (modulo sign n)) }
 {
     if in_range(most, least, sign, n) {
@@ -124,19 +124,19 @@ pub fn number_at(piece: Piece, sign: Sign, n: u64) -> Option<Number>
     match piece {
         Piece::Displacement => Some(Number::Displacement(halfword(sign, n)?)),
         Piece::Immediate => Some(Number::Immediate(halfword(sign, n)?)),
-        Piece::Distance => Some(Number::Words(words(sign, n)?)),
+        Piece::Distance => Some(Number::Words(branch_words(sign, n)?)),
         Piece::Literal if n <= 255 => Some(Number::Literal(n as u8)),
         Piece::Hint if n <= 16383 => Some(Number::Hint(n as u16)),
         Piece::Whole => Some(Number::Whole(n)),
         Piece::Zeroed if n <= MOST_ZEROED => Some(Number::Zeroed(n as u32)),
         Piece::Align if n <= 13 => Some(Number::Align(n as u8)),
         Piece::Level if n == 1 || n == 2 => Some(Number::Level(n as u8)),
-        Piece::Pal => call(n),
+        Piece::Pal => palcode_call(n),
         Piece::Nothing if n == 0 => Some(Number::Nothing),
-        Piece::Byte => value(0xff, 0x80, sign, n),
-        Piece::Word => value(0xffff, 0x8000, sign, n),
-        Piece::Long => value(0xffff_ffff, 0x8000_0000, sign, n),
-        Piece::Quad => value(u64::MAX, 1 << 63, sign, n),
+        Piece::Byte => data_value(0xff, 0x80, sign, n),
+        Piece::Word => data_value(0xffff, 0x8000, sign, n),
+        Piece::Long => data_value(0xffff_ffff, 0x8000_0000, sign, n),
+        Piece::Quad => data_value(u64::MAX, 1 << 63, sign, n),
         _ => None,
     }
 }

@@ -58,7 +58,7 @@ fn first_operands<'a>(
             };
         }
     };
-    let Some(longer) = reached.longer(shape, token.kind) else {
+    let Some(longer) = reached.extend(shape, token.kind) else {
         return None;
     };
     match longer.piece {
@@ -169,7 +169,7 @@ fn past_value(behind: &[u8]) -> Option<&[u8]>
 
 // The value of a number's token, and the list behind its comma.
 #[inline(always)]
-fn numbered<'a>(shape: Shape, sign: Sign, token: &Token<'a>) -> Option<(u64, &'a [u8])>
+fn number_item<'a>(shape: Shape, sign: Sign, token: &Token<'a>) -> Option<(u64, &'a [u8])>
     ensures { IfSome result (λ v. (list : List ℕ) → HasNumber list sign (lexeme token.now)
         → first_value shape list ≡ Some (value v.0, v.1.now)) }
 {
@@ -183,7 +183,7 @@ fn numbered<'a>(shape: Shape, sign: Sign, token: &Token<'a>) -> Option<(u64, &'a
 
 // The label of a token in a list of quadwords, and the list behind its comma.
 #[inline(always)]
-fn labelled<'a>(token: &Token<'a>) -> Option<(Expr<'a>, &'a [u8])>
+fn label_item<'a>(token: &Token<'a>) -> Option<(Expr<'a>, &'a [u8])>
     ensures { IfSome result (λ v. (list : List ℕ) → HasLabel list (lexeme token.now)
         → first_value shapes.Quads list ≡ Some (label v.0.label.now v.0.offset, v.1.now)) }
 {
@@ -208,17 +208,17 @@ fn plain_value(shape: Shape, list: &[u8]) -> Option<(ListValue<'_>, &[u8])>
     };
     match token.kind {
         TokenKind::Number => {
-            let (n, rest) = numbered(shape, Sign::Plus, &token)?;
+            let (n, rest) = number_item(shape, Sign::Plus, &token)?;
             Some((ListValue::Number(n), rest))
         }
         TokenKind::Minus => {
             let digits = behind_minus(token.rest)?;
-            let (n, rest) = numbered(shape, Sign::Minus, &digits)?;
+            let (n, rest) = number_item(shape, Sign::Minus, &digits)?;
             Some((ListValue::Number(n), rest))
         }
         TokenKind::Name => match shape {
             Shape::Quads => {
-                let (to, rest) = labelled(&token)?;
+                let (to, rest) = label_item(&token)?;
                 Some((ListValue::Label(to), rest))
             }
             _ => None,

@@ -143,7 +143,7 @@ impl Reached {
     /// that was read so far is tried first: where two patterns go on with tokens of one form, they
     /// go on with one piece.
     #[inline(always)]
-    pub(crate) fn longer(&self, shape: Shape, kind: TokenKind) -> Option<Longer>
+    pub(crate) fn extend(&self, shape: Shape, kind: TokenKind) -> Option<Longer>
         requires { IsReached (patterns shape) self.now }
         ensures value { option_map (λ l. l.piece) result
             ≡ piece_behind (patterns shape) (front_of self.now) kind }
@@ -251,7 +251,7 @@ fn follow<'a>(
         }
     };
     let left = token.text.len() + token.rest.len();
-    let Some(longer) = reached.longer(shape, token.kind) else {
+    let Some(longer) = reached.extend(shape, token.kind) else {
         return Err(OperandFault {
             left,
             kind: stuck_at(&token),

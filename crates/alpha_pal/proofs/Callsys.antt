@@ -8,10 +8,10 @@ use Rattle.alpha_mem.specs.Memory.{bytes_at, write_bytes}
 use Rattle.alpha_pal.specs.Call.{Silent, Read, Wrote, Called, exits, answers, callsys, call}
 use Rattle.alpha_pal.specs.Serve.{Served, serve, system_call_of, after_serve}
 
-either : (P : (List ℕ → Called) → Type 0) (b : Bool) (x y : List ℕ → Called) → P x → P y
+cond-by_input : (P : (List ℕ → Called) → Type 0) (b : Bool) (x y : List ℕ → Called) → P x → P y
     → P (λ input. cond b (x input) (y input))
-either P true x y p q = p
-either P false x y p q = q
+cond-by_input P true x y p q = p
+cond-by_input P false x y p q = q
 
 -- what holds of an exit, of each error, of a good read and of a good write, by what there is to be read
 pub callsys-each : (P : (List ℕ → Called) → Type 0) (regs : List ℕ) (mem : List Block) (unique : ℕ)
@@ -23,13 +23,13 @@ pub callsys-each : (P : (List ℕ → Called) → Type 0) (regs : List ℕ) (mem
     → P (λ input. answers (reg regs 18) 0 regs mem unique (Wrote (bytes_at mem (reg regs 17) (reg regs 18))))
     → P (λ input. callsys (reg regs 0) regs mem unique input)
 callsys-each P regs mem unique ends fails reads writes =
-    either P (eqb (reg regs 0) 1) _ _ ends
-    (either P (eqb (reg regs 0) 3) _ _
-    (either P (not (eqb (reg regs 16) 0)) _ _ (fails 9)
-    (either P (not (within (shapes mem) Store (reg regs 17) (reg regs 18))) _ _ (fails 14) reads))
-    (either P (eqb (reg regs 0) 4) _ _
-    (either P (not (eqb (reg regs 16) 1)) _ _ (fails 9)
-    (either P (not (within (shapes mem) Load (reg regs 17) (reg regs 18))) _ _ (fails 14) writes))
+    cond-by_input P (eqb (reg regs 0) 1) _ _ ends
+    (cond-by_input P (eqb (reg regs 0) 3) _ _
+    (cond-by_input P (not (eqb (reg regs 16) 0)) _ _ (fails 9)
+    (cond-by_input P (not (within (shapes mem) Store (reg regs 17) (reg regs 18))) _ _ (fails 14) reads))
+    (cond-by_input P (eqb (reg regs 0) 4) _ _
+    (cond-by_input P (not (eqb (reg regs 16) 1)) _ _ (fails 9)
+    (cond-by_input P (not (within (shapes mem) Load (reg regs 17) (reg regs 18))) _ _ (fails 14) writes))
     (fails 78)))
 
 after_serve-cond : (regs : List ℕ) (unique : ℕ) (b : Bool) (x y : Called) (s t : Served) → x ≡ after_serve regs unique s

@@ -9,7 +9,7 @@ use Rattle.std.proofs.KnownBytes.{Consumes-nil, Consumes-trans}
 use Rattle.std.specs.Io.KnownBytes.{Consumes}
 use Rattle.alpha_io.specs.History.{Reply, Took, bytes_given, GaveSome}
 use Rattle.alpha_io.specs.Supply.{Supply}
-use Rattle.alpha_io.proofs.Pieces.{some_bytes}
+use Rattle.alpha_io.proofs.FilePieces.{some_bytes}
 use Rattle.alpha_mem.specs.Intent.{Load, Store}
 use Rattle.alpha_mem.specs.Block.{Shape, Block, shapes, within}
 use Rattle.alpha_mem.specs.Memory.{bytes_at, write_bytes, IsLayout}

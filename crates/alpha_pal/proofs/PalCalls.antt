@@ -94,13 +94,13 @@ restored_all : (regs : List ℕ) → length regs ≡ 32 → put (put (entry_regs
 unfolding reg put
 restored_all regs sized = grind (arith, elements)
 
-restored : (served : Result Answer Fault) (regs : List ℕ) → length regs ≡ 32
+regs_after-restored : (served : Result Answer Fault) (regs : List ℕ) → length regs ≡ 32
     → put (put (regs_after served (entry_regs regs)) 29 (reg regs 29)) 30 (reg regs 30) ≡ regs_after served regs
-restored (Ok (Read n)) regs sized = restored_two regs n 0 sized
-restored (Ok (Wrote n)) regs sized = restored_two regs n 0 sized
-restored (Ok (Error n)) regs sized = restored_two regs n 1 sized
-restored (Ok (Exit v)) regs sized = restored_all regs sized
-restored (Err fault) regs sized = restored_all regs sized
+regs_after-restored (Ok (Read n)) regs sized = restored_two regs n 0 sized
+regs_after-restored (Ok (Wrote n)) regs sized = restored_two regs n 0 sized
+regs_after-restored (Ok (Error n)) regs sized = restored_two regs n 1 sized
+regs_after-restored (Ok (Exit v)) regs sized = restored_all regs sized
+regs_after-restored (Err fault) regs sized = restored_all regs sized
 
 -- equal parts make equal views
 same_seen : (regs regs' : List ℕ) (mem mem' : List Block) (unique : ℕ)
@@ -173,7 +173,7 @@ callsys_effect request served end k f regs entry answer now mem mem' unique left
     subst (λ (e : Result PalEnd Fault). CallEffect Callsys e (seen regs mem unique left written)
     (seen now mem' unique left' written')) (sym (end_is ∙ ap (λ (r : SystemCall). end_of r served) asked))
     (served_effect served regs now mem mem' unique left left' written written' effect
-    (set ∙ restored served regs sized))
+    (set ∙ regs_after-restored served regs sized))
 
 -- the causes of a system call's result are those of its end
 pub input_cause : (request : SystemCall) (served : Result Answer Fault) (end : Result PalEnd Fault) (before now : ℕ)

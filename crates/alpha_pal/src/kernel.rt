@@ -113,7 +113,7 @@ impl Kernel {
         requires { self.now.user ≡ false }
         ensures { result ≡ reg (user_regs self.now regs.now) r }
     {
-        let frame = self.saved();
+        let frame = self.last_frame();
         let live = regs.get(r);
         match r.number() {
             A0 => frame.r16,
@@ -132,7 +132,7 @@ impl Kernel {
         ensures state { self.new ≡ saving self.old r value }
         ensures live { regs.new ≡ (if is_saved r then regs.old else put regs.old r value) }
     {
-        let frame = self.saved();
+        let frame = self.last_frame();
         match r.number() {
             A0 => self.save(Frame {
                 r16: value,
@@ -157,7 +157,7 @@ impl Kernel {
         requires { self.now.user ≡ false }
         ensures { result ≡ self.now.frame.pc }
     {
-        self.saved().pc
+        self.last_frame().pc
     }
 
     /// Changes the PC in the frame, in kernel mode, which is where `rti` goes on (Reference Manual,
@@ -166,7 +166,7 @@ impl Kernel {
         requires { self.old.user ≡ false }
         ensures { self.new ≡ record self.old { frame = record self.old.frame { pc = pc } } }
     {
-        let frame = self.saved();
+        let frame = self.last_frame();
         self.save(Frame { pc, ..frame });
     }
 
@@ -178,7 +178,7 @@ impl Kernel {
         ensures pc { result ≡ self.old.frame.pc }
         ensures state { self.new ≡ record self.old { user = true } }
     {
-        let frame = self.saved();
+        let frame = self.last_frame();
         regs.set(reg(A0), frame.r16);
         regs.set(reg(A1), frame.r17);
         regs.set(reg(A2), frame.r18);
@@ -191,14 +191,14 @@ impl Kernel {
         ensures regs { regs.new ≡ put (put regs.old 29 self.old.frame.gp) 30 self.old.user_stack }
         ensures state { self.new ≡ record self.old { user = true } }
     {
-        let frame = self.saved();
+        let frame = self.last_frame();
         regs.set(reg(GP), frame.gp);
         regs.set(reg(SP), self.user_stack);
         self.user = true;
     }
 
     // The numbers of the last entry's frame.
-    fn saved(&self) -> Frame
+    fn last_frame(&self) -> Frame
         ensures { result ≡ self.now.frame }
     {
         Frame::read(read_last(&self.stack))

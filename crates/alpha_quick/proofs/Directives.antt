@@ -36,50 +36,59 @@ abbrev piece_of : PseudoOp → Piece
 piece_of pseudo_op = (unwrap_or (values_of pseudo_op) (0, pieces.Ra)).1
 
 -- the operands of a directive's line, from the operands before it on
-abbrev reads : PseudoOp → List ℕ → Slots → Result Slots OperandFault
-reads pseudo_op line o = follow (patterns (pseudo_op_shape pseudo_op)) [] signs.Plus (tokens line) o
+abbrev directive_operands : PseudoOp → List ℕ → Slots → Result Slots OperandFault
+directive_operands pseudo_op line o = follow (patterns (pseudo_op_shape pseudo_op)) [] signs.Plus (tokens line) o
 
 -- the operands with a number behind which so much is left
-abbrev with : Slots → Number → List ℕ → Slots
-with o v rest = record o { number = Some v; left = length rest }
+abbrev slots_with_number : Slots → Number → List ℕ → Slots
+slots_with_number o v rest = record o { number = Some v; left = length rest }
 
 -- the last number of a list
-reads-last : (pseudo_op : PseudoOp) (line rest : List ℕ) (v : Number) (o : Slots) → is_some (values_of pseudo_op) ≡ true
-    → HasValue (piece_of pseudo_op) line v rest → HasEnd rest → reads pseudo_op line o ≡ Ok (with o v rest)
+directive_operands-last : (pseudo_op : PseudoOp) (line rest : List ℕ) (v : Number) (o : Slots)
+    → is_some (values_of pseudo_op) ≡ true
+    → HasValue (piece_of pseudo_op) line v rest → HasEnd rest
+    → directive_operands pseudo_op line o ≡ Ok (slots_with_number o v rest)
 unfolding patterns filled
-reads-last owns.Byte line rest v o some (signs.Plus, n, d, is) e = rw (d.2, e.1, d.1, is)
-reads-last owns.Byte line rest v o some (signs.Minus, n, (s, m, d), is) e = rw (m.1, d.2, e.1, d.1, is)
-reads-last owns.Word line rest v o some (signs.Plus, n, d, is) e = rw (d.2, e.1, d.1, is)
-reads-last owns.Word line rest v o some (signs.Minus, n, (s, m, d), is) e = rw (m.1, d.2, e.1, d.1, is)
-reads-last owns.Long line rest v o some (signs.Plus, n, d, is) e = rw (d.2, e.1, d.1, is)
-reads-last owns.Long line rest v o some (signs.Minus, n, (s, m, d), is) e = rw (m.1, d.2, e.1, d.1, is)
-reads-last owns.Quad line rest v o some (signs.Plus, n, d, is) e = rw (d.2, e.1, d.1, is)
-reads-last owns.Quad line rest v o some (signs.Minus, n, (s, m, d), is) e = rw (m.1, d.2, e.1, d.1, is)
-reads-last pseudo_op line rest v o some has e = cc
+directive_operands-last owns.Byte line rest v o some (signs.Plus, n, d, is) e = rw (d.2, e.1, d.1, is)
+directive_operands-last owns.Byte line rest v o some (signs.Minus, n, (s, m, d), is) e = rw (m.1, d.2, e.1, d.1, is)
+directive_operands-last owns.Word line rest v o some (signs.Plus, n, d, is) e = rw (d.2, e.1, d.1, is)
+directive_operands-last owns.Word line rest v o some (signs.Minus, n, (s, m, d), is) e = rw (m.1, d.2, e.1, d.1, is)
+directive_operands-last owns.Long line rest v o some (signs.Plus, n, d, is) e = rw (d.2, e.1, d.1, is)
+directive_operands-last owns.Long line rest v o some (signs.Minus, n, (s, m, d), is) e = rw (m.1, d.2, e.1, d.1, is)
+directive_operands-last owns.Quad line rest v o some (signs.Plus, n, d, is) e = rw (d.2, e.1, d.1, is)
+directive_operands-last owns.Quad line rest v o some (signs.Minus, n, (s, m, d), is) e = rw (m.1, d.2, e.1, d.1, is)
+directive_operands-last pseudo_op line rest v o some has e = cc
 
 -- a number before a comma
-reads-next : (pseudo_op : PseudoOp) (line rest more : List ℕ) (v : Number) (o : Slots)
+directive_operands-next : (pseudo_op : PseudoOp) (line rest more : List ℕ) (v : Number) (o : Slots)
     → is_some (values_of pseudo_op) ≡ true
     → HasValue (piece_of pseudo_op) line v rest → (c : HasComma rest more)
-    → reads pseudo_op line o ≡ reads pseudo_op more (with o v c.1)
+    → directive_operands pseudo_op line o ≡ directive_operands pseudo_op more (slots_with_number o v c.1)
 unfolding patterns filled
-reads-next owns.Byte line rest more v o some (signs.Plus, n, d, is) c = rw (d.2, c.2, d.1, is)
-reads-next owns.Byte line rest more v o some (signs.Minus, n, (s, m, d), is) c = rw (m.1, d.2, c.2, d.1, is)
-reads-next owns.Word line rest more v o some (signs.Plus, n, d, is) c = rw (d.2, c.2, d.1, is)
-reads-next owns.Word line rest more v o some (signs.Minus, n, (s, m, d), is) c = rw (m.1, d.2, c.2, d.1, is)
-reads-next owns.Long line rest more v o some (signs.Plus, n, d, is) c = rw (d.2, c.2, d.1, is)
-reads-next owns.Long line rest more v o some (signs.Minus, n, (s, m, d), is) c = rw (m.1, d.2, c.2, d.1, is)
-reads-next owns.Quad line rest more v o some (signs.Plus, n, d, is) c = rw (d.2, c.2, d.1, is)
-reads-next owns.Quad line rest more v o some (signs.Minus, n, (s, m, d), is) c = rw (m.1, d.2, c.2, d.1, is)
-reads-next pseudo_op line rest more v o some has c = cc
+directive_operands-next owns.Byte line rest more v o some (signs.Plus, n, d, is) c = rw (d.2, c.2, d.1, is)
+directive_operands-next owns.Byte line rest more v o some (signs.Minus, n, (s, m, d), is) c =
+    rw (m.1, d.2, c.2, d.1, is)
+directive_operands-next owns.Word line rest more v o some (signs.Plus, n, d, is) c = rw (d.2, c.2, d.1, is)
+directive_operands-next owns.Word line rest more v o some (signs.Minus, n, (s, m, d), is) c =
+    rw (m.1, d.2, c.2, d.1, is)
+directive_operands-next owns.Long line rest more v o some (signs.Plus, n, d, is) c = rw (d.2, c.2, d.1, is)
+directive_operands-next owns.Long line rest more v o some (signs.Minus, n, (s, m, d), is) c =
+    rw (m.1, d.2, c.2, d.1, is)
+directive_operands-next owns.Quad line rest more v o some (signs.Plus, n, d, is) c = rw (d.2, c.2, d.1, is)
+directive_operands-next owns.Quad line rest more v o some (signs.Minus, n, (s, m, d), is) c =
+    rw (m.1, d.2, c.2, d.1, is)
+directive_operands-next pseudo_op line rest more v o some has c = cc
 
 -- so many numbers
-listed : (pseudo_op : PseudoOp) (n : ℕ) (line rest : List ℕ) (o : Slots) → is_some (values_of pseudo_op) ≡ true
-    → HasCount n (piece_of pseudo_op) line rest → (p : Slots) × (reads pseudo_op line o ≡ Ok p) × (p.left ≡ length rest)
-listed pseudo_op zero line rest o some (v, has, ends) = (_, reads-last pseudo_op line rest v o some has ends, refl)
-listed pseudo_op (suc n) line rest o some (v, after, more, has, comma, on) =
-    let (p, h, left) = listed pseudo_op n more rest (with o v comma.1) some on in
-    (p, reads-next pseudo_op line after more v o some has comma ∙ h, left)
+directive_operands-HasCount : (pseudo_op : PseudoOp) (n : ℕ) (line rest : List ℕ) (o : Slots)
+    → is_some (values_of pseudo_op) ≡ true
+    → HasCount n (piece_of pseudo_op) line rest
+    → (p : Slots) × (directive_operands pseudo_op line o ≡ Ok p) × (p.left ≡ length rest)
+directive_operands-HasCount pseudo_op zero line rest o some (v, has, ends) =
+    (_, directive_operands-last pseudo_op line rest v o some has ends, refl)
+directive_operands-HasCount pseudo_op (suc n) line rest o some (v, after, more, has, comma, on) =
+    let (p, h, left) = directive_operands-HasCount pseudo_op n more rest (slots_with_number o v comma.1) some on in
+    (p, directive_operands-next pseudo_op line after more v o some has comma ∙ h, left)
 
 quads_address : (line rest label : List ℕ) (offset : ℤ) → HasExpr line label offset rest → HasEnd rest
     → GivesUpTo shapes.Quads line rest
@@ -124,7 +133,8 @@ says_values pseudo_op bytes piece after words rest is same (n, has) =
     let some : is_some (values_of pseudo_op) ≡ true = rw is in
     says_list pseudo_op bytes after words rest same
     (λ o list. says_given pseudo_op o list some ∙ ap (λ p. values p.0 list) pair)
-    (listed pseudo_op n words rest nothing some (subst (λ p. HasCount n p.1 words rest) (sym pair) has))
+    (directive_operands-HasCount pseudo_op n words rest nothing some
+    (subst (λ p. HasCount n p.1 words rest) (sym pair) has))
 
 pub says_address : (after words rest label : List ℕ) (offset : ℤ) → tokens after ≡ tokens words
     → HasExpr words label offset rest → HasEnd rest →

@@ -16,14 +16,14 @@ use Rattle.alpha_quick.specs.declared.rows.KeyedRow.{KeyedRow}
 use Rattle.alpha_quick.specs.Keys.{with_byte, key_of, is_named, are_named, IsKeyed}
 
 -- how many numbers so many bytes give
-abbrev limit : ℕ → ℕ
-limit zero = 1
-limit (suc n) = limit n * 256
+abbrev byte_limit : ℕ → ℕ
+byte_limit zero = 1
+byte_limit (suc n) = byte_limit n * 256
 
 abbrev plain : ℕ → ℕ → ℕ
 plain key byte = key * 256 + byte
 
-limit_bound : (n : ℕ) → n < 8 → limit n * 256 ≤ 2 ^ 64
+limit_bound : (n : ℕ) → n < 8 → byte_limit n * 256 ≤ 2 ^ 64
 limit_bound (suc (suc (suc (suc (suc (suc (suc (suc n)))))))) h = absurd (omega arith)
 limit_bound n h = omega arith
 
@@ -31,26 +31,26 @@ byte_bounds : (b : ℕ) → goes_on_name b ≡ true → (0 < b) × (b < 256)
 byte_bounds b h = (grind (arith, nat_tests), grind (arith, nat_tests))
 
 -- nothing is dropped of eight bytes
-fold_plain : (name : List ℕ) (n key : ℕ) → key < limit n → n + length name ≤ 8 → list_all goes_on_name name ≡ true
+fold_plain : (name : List ℕ) (n key : ℕ) → key < byte_limit n → n + length name ≤ 8 → list_all goes_on_name name ≡ true
     → fold with_byte key name ≡ fold plain key name
 fold_plain [] n key h room all = refl
 fold_plain (b ∷ bs) n key h room all =
     let (here, more) = and_parts (goes_on_name b) (list_all goes_on_name bs) all in
     let (some, byte) = byte_bounds b here in
-    let top : limit n * 256 ≤ 2 ^ 64 = limit_bound n (omega arith) in
+    let top : byte_limit n * 256 ≤ 2 ^ 64 = limit_bound n (omega arith) in
     let same : (key * 256 % 2 ^ 64 + b) % 2 ^ 64 ≡ key * 256 + b = omega arith in
-    let below : key * 256 + b < limit n * 256 = omega arith in
+    let below : key * 256 + b < byte_limit n * 256 = omega arith in
     ap (λ k. fold with_byte k bs) same ∙ fold_plain bs (suc n) (plain key b) below (omega arith) more
 
 -- the number of bytes, the last one first
-abbrev number : List ℕ → ℕ
-number [] = 0
-number (b ∷ bs) = b + number bs * 256
+abbrev reversed_number : List ℕ → ℕ
+reversed_number [] = 0
+reversed_number (b ∷ bs) = b + reversed_number bs * 256
 
-fold_number : (name bs : List ℕ) → fold plain (number bs) name ≡ number (reverse_aux name bs)
+fold_number : (name bs : List ℕ) → fold plain (reversed_number bs) name ≡ reversed_number (reverse_aux name bs)
 fold_number [] bs = refl
 fold_number (b ∷ name) bs =
-    let same : number bs * 256 + b ≡ b + number bs * 256 = omega arith in
+    let same : reversed_number bs * 256 + b ≡ b + reversed_number bs * 256 = omega arith in
     ap (λ k. fold plain k name) same ∙ fold_number name (b ∷ bs)
 
 all_reversed : (name bs : List ℕ) → list_all goes_on_name name ≡ true → list_all goes_on_name bs ≡ true
@@ -60,28 +60,30 @@ all_reversed (b ∷ name) bs h all =
     let (here, more) = and_parts (goes_on_name b) (list_all goes_on_name name) h in
     all_reversed name (b ∷ bs) more (rw (here, all) refl)
 
-one_number : (a b : List ℕ) → list_all goes_on_name a ≡ true → list_all goes_on_name b ≡ true → number a ≡ number b
+one_number : (a b : List ℕ) → list_all goes_on_name a ≡ true → list_all goes_on_name b ≡ true
+    → reversed_number a ≡ reversed_number b
     → a ≡ b
 one_number [] [] f g e = refl
 one_number [] (y ∷ ys) f g e =
     let some : (0 < y) × (y < 256) = byte_bounds y (and_parts (goes_on_name y) (list_all goes_on_name ys) g).0 in
-    let sum : 0 ≡ y + number ys * 256 = e in
+    let sum : 0 ≡ y + reversed_number ys * 256 = e in
     absurd (omega (arith, some.0))
 one_number (x ∷ xs) [] f g e =
     let some : (0 < x) × (x < 256) = byte_bounds x (and_parts (goes_on_name x) (list_all goes_on_name xs) f).0 in
-    let sum : x + number xs * 256 ≡ 0 = e in
+    let sum : x + reversed_number xs * 256 ≡ 0 = e in
     absurd (omega (arith, some.0))
 one_number (x ∷ xs) (y ∷ ys) f g e =
     let (p, ps) = and_parts (goes_on_name x) (list_all goes_on_name xs) f in
     let (q, qs) = and_parts (goes_on_name y) (list_all goes_on_name ys) g in
     let (some, left) = byte_bounds x p in
     let (any, right) = byte_bounds y q in
-    let sums : x + number xs * 256 ≡ y + number ys * 256 = e in
+    let sums : x + reversed_number xs * 256 ≡ y + reversed_number ys * 256 = e in
     let first : x ≡ y = omega arith in
-    let others : number xs ≡ number ys = omega arith in
+    let others : reversed_number xs ≡ reversed_number ys = omega arith in
     ap (λ z. z ∷ xs) first ∙ ap (λ zs. y ∷ zs) (one_number xs ys ps qs others)
 
-key_number : (name : List ℕ) → length name ≤ 8 → list_all goes_on_name name ≡ true → key_of name ≡ number (reverse name)
+key_number : (name : List ℕ) → length name ≤ 8 → list_all goes_on_name name ≡ true
+    → key_of name ≡ reversed_number (reverse name)
 key_number name short all = fold_plain name 0 0 (omega arith) (omega arith) all ∙ fold_number name []
 
 -- names of one key are one

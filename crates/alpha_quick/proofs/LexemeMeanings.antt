@@ -48,9 +48,9 @@ meaning-slots : {P Q : Slots → Type 0} (o : Slots) → P o → Q o → (o : Sl
 meaning-slots o gives says = (o, gives, says)
 
 -- what is there has what follows from what it has
-pub if-some : {A : Type 0} (P Q : A → Type 0) (r : Option A) → ((x : A) → P x → Q x) → IfSome r P → IfSome r Q
-if-some P Q None f h = h
-if-some P Q (Some x) f h = f x h
+pub IfSome-implied : {A : Type 0} (P Q : A → Type 0) (r : Option A) → ((x : A) → P x → Q x) → IfSome r P → IfSome r Q
+IfSome-implied P Q None f h = h
+IfSome-implied P Q (Some x) f h = f x h
 
 -- what an instruction says its equal says
 pub if-insn : (m : Mnemonic) (line : List ℕ) (i : Form) (r : Option Form) → Says m line (code i) → IfSome r (λ j. j ≡ i)
@@ -77,7 +77,8 @@ pub Says-first_register : (m : Mnemonic) (words : List ℕ) (ra : ℕ) (rest : L
     → IfSome r (λ l. (line : List ℕ) → HasFirst line ra rest → PrefixSays (Says m line) l)
     → IfSome r (PrefixSays (Says m words))
 Says-first_register m words ra rest r first h =
-    if-some (λ l. (line : List ℕ) → HasFirst line ra rest → PrefixSays (Says m line) l) (PrefixSays (Says m words)) r
+    IfSome-implied (λ l. (line : List ℕ) → HasFirst line ra rest → PrefixSays (Says m line) l)
+    (PrefixSays (Says m words)) r
     (λ l k. k words first) h
 
 -- the same said of what is the same

@@ -1,5 +1,5 @@
 mod Directives
-mod Joined
+mod CanonicalLines
 mod Keys
 mod LexemeMeanings
 mod Parts

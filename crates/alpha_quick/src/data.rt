@@ -11,7 +11,7 @@ ghost use Rattle.alpha_quick.specs.Listed.{HasValues};
 ghost use Rattle.alpha_quick.specs.Words.{HasValue};
 
 use crate::groups::expr;
-use crate::words::{comma, is_end, number, signed_number};
+use crate::words::{after_comma, is_end, number, signed_number};
 use alpha_operands::{Number, Piece, Sign, number_at};
 use alpha_text::{Head, PseudoOp, Statement, list_in, with_operands};
 
@@ -49,7 +49,7 @@ fn after_values(piece: Piece, words: &[u8]) -> Option<&[u8]>
         if is_end(behind) {
             return Some(behind);
         }
-        rest = comma(behind)?;
+        rest = after_comma(behind)?;
     }
     None
 }

@@ -12,7 +12,7 @@ ghost use Rattle.alpha_quick.specs.InsnPrefix.{PrefixSays};
 ghost use Rattle.alpha_quick.specs.Words.{HasFirst};
 
 use crate::groups::{binary, distance, first, jump, last, last_base, pair, tail, unary};
-use crate::words::{comma, is_end, number, signed_number};
+use crate::words::{after_comma, is_end, number, signed_number};
 use alpha_operands::{Number, Piece, Sign, number_at};
 use alpha_table::{BranchOp, Form, Insn, JumpKind, MemOp, Mnemonic, Op, OperandRule, Src};
 use alpha_text::{
@@ -35,7 +35,7 @@ pub(crate) struct InsnPrefix<'a> {
 impl<'a> InsnPrefix<'a> {
     // An instruction that reaches no label.
     #[inline(always)]
-    pub(crate) fn whole(insn: Insn, end: &'a [u8]) -> InsnPrefix<'a>
+    pub(crate) fn without_label(insn: Insn, end: &'a [u8]) -> InsnPrefix<'a>
         ensures insn { result.insn ≡ insn }
         ensures whole { result.reaches ≡ false }
     {
@@ -48,7 +48,7 @@ impl<'a> InsnPrefix<'a> {
 
     // An instruction that is to reach the label of these words.
     #[inline(always)]
-    fn to(insn: Insn, left: &'a [u8]) -> InsnPrefix<'a>
+    fn toward_label(insn: Insn, left: &'a [u8]) -> InsnPrefix<'a>
         ensures insn { result.insn ≡ insn }
         ensures reaches { result.reaches ≡ true }
         ensures left { result.left.now ≡ left.now }
@@ -88,19 +88,19 @@ fn access_by_base(op: MemOp, ra: Reg, words: &[u8]) -> Option<Insn>
 
 // A memory instruction behind its register and a comma.
 #[inline(always)]
-fn accessing<'a>(op: MemOp, ra: Reg, words: &'a [u8]) -> Option<InsnPrefix<'a>>
+fn access_prefix<'a>(op: MemOp, ra: Reg, words: &'a [u8]) -> Option<InsnPrefix<'a>>
     ensures { IfSome result (λ l. (line : List ℕ) → HasFirst line ra words.now
         → PrefixSays (Says (mnemonics.Mem op) line) l) }
 {
     match words {
-        [b'%', ..] => Some(InsnPrefix::to(Insn::memory(op, ra, Reg::ZERO, 0), words)),
+        [b'%', ..] => Some(InsnPrefix::toward_label(Insn::memory(op, ra, Reg::ZERO, 0), words)),
         [b'(', ..] => {
             let insn = access_by_base(op, ra, words)?;
-            Some(InsnPrefix::whole(insn, words))
+            Some(InsnPrefix::without_label(insn, words))
         }
         _ => {
             let insn = access_by_displacement(op, ra, words)?;
-            Some(InsnPrefix::whole(insn, words))
+            Some(InsnPrefix::without_label(insn, words))
         }
     }
 }
@@ -113,12 +113,12 @@ fn memory(op: MemOp, words: &[u8]) -> Option<InsnPrefix<'_>>
     let Some((ra, rest)) = first(words) else {
         return None;
     };
-    accessing(op, ra, rest)
+    access_prefix(op, ra, rest)
 }
 
 // A branch over a distance, behind its register and a comma.
 #[inline(always)]
-fn over(op: BranchOp, ra: Reg, words: &[u8]) -> Option<Insn>
+fn branch_over(op: BranchOp, ra: Reg, words: &[u8]) -> Option<Insn>
     ensures { IfSome result (λ i. (line : List ℕ) → HasFirst line ra words.now
         → Says (mnemonics.Branch op) line (code i)) }
 {
@@ -134,10 +134,10 @@ fn branch_with_link<'a>(op: BranchOp, ra: Reg, words: &'a [u8]) -> Option<InsnPr
 {
     match words {
         [b'.', ..] => {
-            let insn = over(op, ra, words)?;
-            Some(InsnPrefix::whole(insn, words))
+            let insn = branch_over(op, ra, words)?;
+            Some(InsnPrefix::without_label(insn, words))
         }
-        _ => Some(InsnPrefix::to(Insn::branch(op, ra, 0), words)),
+        _ => Some(InsnPrefix::toward_label(Insn::branch(op, ra, 0), words)),
     }
 }
 
@@ -148,7 +148,7 @@ fn branch_without_link(op: BranchOp, words: &[u8]) -> Option<InsnPrefix<'_>>
 {
     let ra = link(op);
     match op {
-        BranchOp::Br | BranchOp::Bsr => Some(InsnPrefix::to(Insn::branch(op, ra, 0), words)),
+        BranchOp::Br | BranchOp::Bsr => Some(InsnPrefix::toward_label(Insn::branch(op, ra, 0), words)),
         _ => None,
     }
 }
@@ -171,7 +171,7 @@ fn branch(op: BranchOp, words: &[u8]) -> Option<InsnPrefix<'_>>
 
 // A jump with its registers, and a hint or none.
 #[inline(always)]
-fn jumping(kind: JumpKind, words: &[u8]) -> Option<Insn>
+fn jump_insn(kind: JumpKind, words: &[u8]) -> Option<Insn>
     ensures { IfSome result (λ i. Says (mnemonics.Jump kind) words.now (code i)) }
 {
     let operands = jump(words)?;
@@ -181,7 +181,7 @@ fn jumping(kind: JumpKind, words: &[u8]) -> Option<Insn>
 
 // `ret` alone.
 #[inline(always)]
-fn bare(kind: JumpKind, words: &[u8]) -> Option<Insn>
+fn ret_alone(kind: JumpKind, words: &[u8]) -> Option<Insn>
     ensures { IfSome result (λ i. Says (mnemonics.Jump kind) words.now (code i)) }
 {
     match kind {
@@ -267,7 +267,7 @@ fn prefetch(modify: bool, words: &[u8]) -> Option<Insn>
 
 // An instruction that is a name alone.
 #[inline(always)]
-fn alone(row: Mnemonic, form: Form, words: &[u8]) -> Option<Insn>
+fn name_alone(row: Mnemonic, form: Form, words: &[u8]) -> Option<Insn>
     requires { IsAlone row form }
     ensures { IfSome result (λ i. Says row words.now (code i)) }
 {
@@ -284,12 +284,12 @@ fn of_rare_row(row: Mnemonic, words: &[u8]) -> Option<Insn>
         Mnemonic::Mem(_) | Mnemonic::Branch(_) => None,
         Mnemonic::Operate(op) => fewer_sources(op, words),
         Mnemonic::Jump(kind) => match words {
-            [b'$', ..] => jumping(kind, words),
-            _ => bare(kind, words),
+            [b'$', ..] => jump_insn(kind, words),
+            _ => ret_alone(kind, words),
         },
         Mnemonic::Fetch { modify } => prefetch(modify, words),
-        Mnemonic::Misc(op) => alone(row, Form::Misc(op), words),
-        Mnemonic::Pal(call) => alone(row, Form::Pal(call), words),
+        Mnemonic::Misc(op) => name_alone(row, Form::Misc(op), words),
+        Mnemonic::Pal(call) => name_alone(row, Form::Pal(call), words),
     }
 }
 
@@ -303,11 +303,11 @@ pub(crate) fn of_row(row: Mnemonic, words: &[u8]) -> Option<InsnPrefix<'_>>
         Mnemonic::Branch(op) => branch(op, words),
         Mnemonic::Operate(op) if op.row().operands == OperandRule::Any => {
             let insn = two_sources(op, words)?;
-            Some(InsnPrefix::whole(insn, words))
+            Some(InsnPrefix::without_label(insn, words))
         }
         _ => {
             let insn = of_rare_row(row, words)?;
-            Some(InsnPrefix::whole(insn, words))
+            Some(InsnPrefix::without_label(insn, words))
         }
     }
 }
@@ -321,7 +321,7 @@ fn move_of_number(words: &[u8]) -> Option<Insn>
     let Some(Number::Immediate(n)) = number_at(Piece::Immediate, sign, n) else {
         return None;
     };
-    let rest = comma(rest)?;
+    let rest = after_comma(rest)?;
     let rc = last(rest)?;
     Some(move_number(n, rc))
 }
@@ -350,7 +350,7 @@ fn nop(words: &[u8]) -> Option<Insn>
 
 // `clr`.
 #[inline(always)]
-fn clear(words: &[u8]) -> Option<Insn>
+fn clr(words: &[u8]) -> Option<Insn>
     ensures { IfSome result (λ i. StandsFor owns.Clr words.now i) }
 {
     let rc = last(words)?;
@@ -375,7 +375,7 @@ pub(crate) fn of_pseudo_op(pseudo_op: PseudoOp, words: &[u8]) -> Option<Insn>
 {
     match pseudo_op {
         PseudoOp::Mov => move_insn(words),
-        PseudoOp::Clr => clear(words),
+        PseudoOp::Clr => clr(words),
         PseudoOp::Nop => nop(words),
         _ => pair_insn(pseudo_op, words),
     }

@@ -5,7 +5,7 @@ ghost use Rattle.alpha_quick.specs.Words.{HasFirst, HasBase, HasExpr, HasLastBas
 ghost use Rattle.alpha_quick.specs.Words.{HasPair, HasUnary, HasBinary, HasWrittenHint, HasHint, HasJump, HasTarget};
 ghost use Rattle.alpha_quick.specs.Words.{HasOffset, HasWords, HasDistance, HasAddress};
 
-use crate::words::{after_byte, close, comma, half, is_end, label, number, open, register};
+use crate::words::{after_byte, after_close, after_comma, half, is_end, label, number, after_open, register};
 use alpha_operands::{Expr, Half, Number, Piece, Sign, number_at, offset_at};
 use alpha_table::Src;
 use alpha_words::Reg;
@@ -18,7 +18,7 @@ pub(crate) fn first(s: &[u8]) -> Option<(Reg, &[u8])>
     let Some((r, rest)) = register(s) else {
         return None;
     };
-    let rest = comma(rest)?;
+    let rest = after_comma(rest)?;
     Some((r, rest))
 }
 
@@ -27,11 +27,11 @@ pub(crate) fn first(s: &[u8]) -> Option<(Reg, &[u8])>
 fn base(s: &[u8]) -> Option<(Reg, &[u8])>
     ensures { IfSome result (λ r. HasBase s.now r.0 r.1.now) }
 {
-    let inner = open(s)?;
+    let inner = after_open(s)?;
     let Some((r, rest)) = register(inner) else {
         return None;
     };
-    let rest = close(rest)?;
+    let rest = after_close(rest)?;
     Some((r, rest))
 }
 
@@ -101,7 +101,7 @@ fn source(s: &[u8]) -> Option<(Src, &[u8])>
             let Some(Number::Literal(n)) = number_at(Piece::Literal, Sign::Plus, n) else {
                 return None;
             };
-            let rest = comma(rest)?;
+            let rest = after_comma(rest)?;
             Some((Src::Lit(n), rest))
         }
     }
@@ -176,7 +176,7 @@ pub(crate) fn binary(s: &[u8]) -> Option<Sources>
 fn written_hint(s: &[u8]) -> Option<u16>
     ensures { IfSome result (λ hint. HasWrittenHint s.now hint) }
 {
-    let digits = comma(s)?;
+    let digits = after_comma(s)?;
     let (n, rest) = number(digits)?;
     let Some(Number::Hint(hint)) = number_at(Piece::Hint, Sign::Plus, n) else {
         return None;
@@ -263,6 +263,6 @@ pub(crate) fn address(s: &[u8]) -> Option<(Half, Expr<'_>, &[u8])>
     let Some((to, rest)) = expr(inner) else {
         return None;
     };
-    let rest = close(rest)?;
+    let rest = after_close(rest)?;
     Some((half, to, rest))
 }

@@ -60,7 +60,7 @@ fn insn_prefix_of<'a>(lexeme: &Lexeme<'a>) -> Option<InsnPrefix<'a>>
         None => {
             let pseudo_op = pseudo_op_named(lexeme.name, lexeme.key)?;
             let insn = of_pseudo_op(pseudo_op, words)?;
-            Some(InsnPrefix::whole(insn, words))
+            Some(InsnPrefix::without_label(insn, words))
         }
     }
 }

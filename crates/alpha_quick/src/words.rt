@@ -59,7 +59,7 @@ fn digit(s: &[u8]) -> Option<(u32, &[u8])>
 }
 
 // A number with the digits behind it, eight at most.
-#[tactic(auto, using(crate::proofs::Joined::decimal_next_digit))]
+#[tactic(auto, using(crate::proofs::CanonicalLines::decimal_next_digit))]
 #[inline(always)]
 fn with_digits(first: u32, s: &[u8]) -> (u32, &[u8])
     requires some { 0 < first }
@@ -95,7 +95,7 @@ fn decimal(s: &[u8]) -> Option<(u32, &[u8])>
 }
 
 // A number of one digit or two at the front, and what stands behind it.
-#[tactic(auto, using(std::proofs::lemmas::Fmt::decimal_digit, crate::proofs::Joined::decimal_next_digit))]
+#[tactic(auto, using(std::proofs::lemmas::Fmt::decimal_digit, crate::proofs::CanonicalLines::decimal_next_digit))]
 #[inline(always)]
 fn register_number(s: &[u8]) -> Option<(u32, &[u8])>
     ensures { IfSome result (λ r. s.now ≡ decimal r.0 ++ r.1.now) }
@@ -125,7 +125,7 @@ fn after_blanks_and_byte(byte: u8, s: &[u8]) -> Option<&[u8]>
 
 /// What stands behind a comma at the front and the blanks behind it.
 #[inline(always)]
-pub(crate) fn comma(s: &[u8]) -> Option<&[u8]>
+pub(crate) fn after_comma(s: &[u8]) -> Option<&[u8]>
     ensures { IfSome result (λ r. HasComma s.now r.now) }
 {
     match after_byte(b',', s) {
@@ -139,7 +139,7 @@ pub(crate) fn comma(s: &[u8]) -> Option<&[u8]>
 
 /// What stands behind `(` at the front.
 #[inline(always)]
-pub(crate) fn open(s: &[u8]) -> Option<&[u8]>
+pub(crate) fn after_open(s: &[u8]) -> Option<&[u8]>
     ensures { IfSome result (λ r. HasMark s.now kinds.Open r.now) }
 {
     match after_byte(b'(', s) {
@@ -150,7 +150,7 @@ pub(crate) fn open(s: &[u8]) -> Option<&[u8]>
 
 /// What stands behind `)` at the front.
 #[inline(always)]
-pub(crate) fn close(s: &[u8]) -> Option<&[u8]>
+pub(crate) fn after_close(s: &[u8]) -> Option<&[u8]>
     ensures { IfSome result (λ r. HasMark s.now kinds.Close r.now) }
 {
     match after_byte(b')', s) {

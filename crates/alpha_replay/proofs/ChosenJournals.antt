@@ -9,7 +9,7 @@ use Rattle.alpha_imprecise.specs.ChosenRun.{ChosenRun, advance_chosen_run, steps
 use Rattle.alpha_imprecise.proofs.PendingTraps.{advance_chosen_run-going}
 use Rattle.alpha_imprecise.proofs.StepBounds.{steps-first}
 use Rattle.alpha_imprecise.proofs.EffectiveChoices.{next_step_result-by, over_by, left_behind, fed_split}
-use Rattle.alpha_imprecise.proofs.Drawn.{chosen_run_with}
+use Rattle.alpha_imprecise.proofs.DrawnRuns.{chosen_run_with}
 use Rattle.alpha_replay.specs.Journaled.{advance_journaled, steps_journaled, GoesOver}
 
 first_journaled : (n : ℕ) (g : Program) (k : ChosenRun) (m : ℕ)

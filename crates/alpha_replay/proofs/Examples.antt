@@ -75,30 +75,34 @@ example_replay items = seen_of (listed two_overflows [] items)
 
 -- The second overflow is executed while the first one waits, and adds to the mask. The barrier reports the first, and
 -- behind it the second triggers.
-exits : example_replay (Units 3 ∷ Trigger 9 ∷ Wait true 9 ∷ Report ∷ Trigger 9 ∷ Report ∷ Units 4 ∷ [])
+example_replay-exits : example_replay (Units 3 ∷ Trigger 9 ∷ Wait true 9 ∷ Report ∷ Trigger 9 ∷ Report ∷ Units 4 ∷ [])
     ≡ Ok (record { end = Some (Exit 9223372036854775806); logged = 65548 ∷ 65552 ∷ []; units = 9 })
 unfolding example_replay
-exits = refl
+example_replay-exits = refl
 
 -- the word behind two steps doesn't overflow
-early : example_replay (Units 2 ∷ Trigger 9 ∷ Wait true 9 ∷ Report ∷ Trigger 9 ∷ Report ∷ Units 4 ∷ []) ≡ Err 1
+example_replay-early_trigger : example_replay
+    (Units 2 ∷ Trigger 9 ∷ Wait true 9 ∷ Report ∷ Trigger 9 ∷ Report ∷ Units 4 ∷ [])
+    ≡ Err 1
 unfolding example_replay
-early = refl
+example_replay-early_trigger = refl
 
 -- three steps behind a report reach the exit alone, and nothing follows it
-late : example_replay (Units 3 ∷ Trigger 9 ∷ Wait true 9 ∷ Report ∷ Trigger 9 ∷ Report ∷ Units 5 ∷ []) ≡ Err 6
+example_replay-behind_exit : example_replay
+    (Units 3 ∷ Trigger 9 ∷ Wait true 9 ∷ Report ∷ Trigger 9 ∷ Report ∷ Units 5 ∷ [])
+    ≡ Err 6
 unfolding example_replay
-late = refl
+example_replay-behind_exit = refl
 
 -- no word is executed at a barrier while a trap is pending
-barrier : example_replay (Units 3 ∷ Trigger 9 ∷ Wait true 9 ∷ Wait true 9 ∷ []) ≡ Err 3
+example_replay-waits_at_barrier : example_replay (Units 3 ∷ Trigger 9 ∷ Wait true 9 ∷ Wait true 9 ∷ []) ≡ Err 3
 unfolding example_replay
-barrier = refl
+example_replay-waits_at_barrier = refl
 
 -- a trap is pending, so no unit follows
-pending : example_replay (Units 3 ∷ Trigger 9 ∷ Units 1 ∷ []) ≡ Err 2
+example_replay-unit_while_pending : example_replay (Units 3 ∷ Trigger 9 ∷ Units 1 ∷ []) ≡ Err 2
 unfolding example_replay
-pending = refl
+example_replay-unit_while_pending = refl
 
 -- nothing is pending, so nothing is reported
 report_without_pending : example_replay (Units 3 ∷ Report ∷ []) ≡ Err 1

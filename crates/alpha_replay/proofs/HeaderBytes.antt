@@ -7,7 +7,8 @@ use Rattle.std.proofs.lemmas.Bool.Decides.{Decides-eqb}
 use Rattle.std.proofs.lemmas.List.{append-nil, drop_more}
 use Rattle.std.proofs.lemmas.Slice.Eq.{starts_is}
 use Rattle.alpha_image.specs.Layout.{quadword, longword}
-use Rattle.alpha_image.proofs.Numbers.{IsBytes, quadword_at-front, longword_at-front, drop-quadword, drop-longword}
+use Rattle.alpha_image.proofs.LittleEndianNumbers.{IsBytes, quadword_at-front, longword_at-front, drop-quadword}
+use Rattle.alpha_image.proofs.LittleEndianNumbers.{drop-longword}
 use Rattle.alpha_replay.specs.Journal.{Numbers, magic, header_bytes}
 use Rattle.alpha_replay.specs.Reading.{numbers_in}
 

@@ -8,7 +8,7 @@ use Rattle.std.specs.Option.{option_and_then}
 use Rattle.alpha_seq.specs.State.{Program}
 use Rattle.alpha_seq.specs.Step.{next_class}
 use Rattle.alpha_seq.proofs.InputRequests.{drop-taken}
-use Rattle.alpha_seq.proofs.Fronts.{take_front}
+use Rattle.alpha_seq.proofs.InputPrefixes.{take_front}
 use Rattle.alpha_imprecise.specs.StepResult.{StepResult}
 use Rattle.alpha_imprecise.specs.Step.{imprecise_step}
 use Rattle.alpha_imprecise.specs.Run.{finished, given_to}
@@ -22,12 +22,12 @@ use Rattle.alpha_replay.specs.Listed.{Played, played_by, played_over, move, unit
 
 -- where one run leads to another by some part of a journal, a front of its input leads it there, where a front of the
 -- rest is left
-abbrev Feeds : (Played → Option Played) → Played → Played → List ℕ → List ℕ → Type 0
-Feeds part p q b r = (a : List ℕ) × (p.run.left ≡ a ++ r) × (part (played_over a p) ≡ Some (played_over b q))
+abbrev LeadsByPrefix : (Played → Option Played) → Played → Played → List ℕ → List ℕ → Type 0
+LeadsByPrefix part p q b r = (a : List ℕ) × (p.run.left ≡ a ++ r) × (part (played_over a p) ≡ Some (played_over b q))
 
 module _ (g : Program) where
   move_feeds : (p q : Played) (m : Move) (b r : List ℕ) → move g p m ≡ Some q → q.run.left ≡ b ++ r
-      → Feeds (λ x. move g x m) p q b r
+      → LeadsByPrefix (λ x. move g x m) p q b r
   move_feeds p q m b r e left =
       by (not (finished p.run.at.last_event)
       && move_applies (next_class g p.run.at.state.pc) p.run.at.state p.run.at.pending p.waited m)
@@ -38,7 +38,7 @@ module _ (g : Program) where
           && move_applies (next_class g p.run.at.state.pc) p.run.at.state p.run.at.pending p.waited m) ≡ x
           → cond x (Some (played_by p (imprecise_step g p.run.at.state p.run.at.pending (choice_of m) p.run.left))) None
           ≡ Some q
-          → Feeds (λ x. move g x m) p q b r
+          → LeadsByPrefix (λ x. move g x m) p q b r
       by false guard e = absurd cc
       by true guard e =
           let s = p.run.at.state in
@@ -71,15 +71,16 @@ module _ (g : Program) where
   -- ---- an item
 
   units_feeds : (n : ℕ) (p q : Played) (b r : List ℕ) → units g n p ≡ Some q → q.run.left ≡ b ++ r
-      → Feeds (units g n) p q b r
+      → LeadsByPrefix (units g n) p q b r
   units_feeds zero p q b r e left =
       let same : p ≡ q = cc in
       (b, ap (λ (x : Played). x.run.left) same ∙ left, ap (λ (x : Played). Some (played_over b x)) same)
   units_feeds (suc n) p q b r e left = by (λ mid a is h. units_feeds n p mid a r is h) (units g n p) refl e
     where
-      by : ((mid : Played) (a : List ℕ) → units g n p ≡ Some mid → mid.run.left ≡ a ++ r → Feeds (units g n) p mid a r)
+      by : ((mid : Played) (a : List ℕ) → units g n p ≡ Some mid → mid.run.left ≡ a ++ r
+          → LeadsByPrefix (units g n) p mid a r)
           → (x : Option Played) → units g n p ≡ x → option_and_then (λ y. move g y One) x ≡ Some q
-          → Feeds (units g (suc n)) p q b r
+          → LeadsByPrefix (units g (suc n)) p q b r
       by before None is e = absurd cc
       by before (Some mid) is e =
           let last = move_feeds mid q One b r e left in
@@ -87,7 +88,7 @@ module _ (g : Program) where
           (first.0, first.1, ap (option_and_then (λ y. move g y One)) first.2 ∙ last.2)
 
   item_feeds : (i : Item) (p q : Played) (b r : List ℕ) → item g i p ≡ Some q → q.run.left ≡ b ++ r
-      → Feeds (item g i) p q b r
+      → LeadsByPrefix (item g i) p q b r
   item_feeds (items.Units n) p q b r e left = units_feeds n p q b r e left
   item_feeds (items.Trigger value) p q b r e left = move_feeds p q (Trips value) b r e left
   item_feeds (items.Wait adds value) p q b r e left = move_feeds p q (Waits adds value) b r e left

@@ -5,8 +5,9 @@ use Rattle.std.specs.Prelude.{not, ◌&&◌}
 use Rattle.std.proofs.lemmas.Bool.{eqb-true, ne_eqb, le-leb, leb-true}
 use Rattle.alpha_image.specs.Layout.{quadword, longword}
 use Rattle.alpha_image.specs.Reading.{quadword_at, longword_at}
-use Rattle.alpha_image.proofs.Numbers.{IsBytes, quadword_at-front, longword_at-front, drop-quadword, drop-longword}
-use Rattle.alpha_image.proofs.Numbers.{quadword_at-lt, longword_at-lt}
+use Rattle.alpha_image.proofs.LittleEndianNumbers.{IsBytes, quadword_at-front, longword_at-front, drop-quadword}
+use Rattle.alpha_image.proofs.LittleEndianNumbers.{drop-longword}
+use Rattle.alpha_image.proofs.LittleEndianNumbers.{quadword_at-lt, longword_at-lt}
 use Rattle.alpha_replay.specs.declared.item.Item.{Item}
 use Rattle.alpha_replay.specs.declared.item.Item.TheVariants.{Units, Trigger, Wait, Report}
 use Rattle.alpha_replay.specs.Items.{flag, item_bytes, item_size, is_units, FitsItem, item_in}
@@ -21,50 +22,51 @@ pub data ItemAt (behind : Bool) (bytes : List ℕ) (i : Item) : Type 0 where
   SeenReport : get_or bytes 0 0 ≡ 3 → 1 ≤ length bytes → i ≡ Report → ItemAt behind bytes i
 
 -- which of two a choice is
-split : (b : Bool) (o p : Option Item) (i : Item) → cond b o p ≡ Some i
+cond-Some : (b : Bool) (o p : Option Item) (i : Item) → cond b o p ≡ Some i
     → ((b ≡ true) × (o ≡ Some i)) ⊎ ((b ≡ false) × (p ≡ Some i))
-split true o p i e = inl (refl, e)
-split false o p i e = inr (refl, e)
+cond-Some true o p i e = inl (refl, e)
+cond-Some false o p i e = inr (refl, e)
 
 -- a choice that is there
-there : (b : Bool) (j i : Item) → cond b (Some j) None ≡ Some i → (b ≡ true) × (i ≡ j)
-there true j i e = (refl, cc)
-there false j i e = absurd cc
+cond-Some_or_None : (b : Bool) (j i : Item) → cond b (Some j) None ≡ Some i → (b ≡ true) × (i ≡ j)
+cond-Some_or_None true j i e = (refl, cc)
+cond-Some_or_None false j i e = absurd cc
 
-both : (a b : Bool) → a && b ≡ true → (a ≡ true) × (b ≡ true)
-both true b e = (refl, e)
-both false b e = absurd cc
+and-both : (a b : Bool) → a && b ≡ true → (a ≡ true) × (b ≡ true)
+and-both true b e = (refl, e)
+and-both false b e = absurd cc
 
-no : (b : Bool) → not b ≡ true → b ≡ false
-no true e = absurd cc
-no false e = refl
+not-true : (b : Bool) → not b ≡ true → b ≡ false
+not-true true e = absurd cc
+not-true false e = refl
 
-positive : (n : ℕ) → eqb n 0 ≡ false → 0 < n
-positive zero e = absurd cc
-positive (suc n) e = omega arith
+eqb-positive : (n : ℕ) → eqb n 0 ≡ false → 0 < n
+eqb-positive zero e = absurd cc
+eqb-positive (suc n) e = omega arith
 
 pub item_in-ItemAt : (behind : Bool) (bytes : List ℕ) (i : Item) → item_in behind bytes ≡ Some i → ItemAt behind bytes i
 item_in-ItemAt behind bytes i e =
-    elim (split (eqb (length bytes) 0) _ _ i e) [
+    elim (cond-Some (eqb (length bytes) 0) _ _ i e) [
       | inl h ↦ absurd (let none : None ≡ Some i = h.1 in cc)
       | inr h ↦
-          let long = positive (length bytes) h.0 in
-          elim (split (eqb (get_or bytes 0 0) 0) _ _ i h.1) [
+          let long = eqb-positive (length bytes) h.0 in
+          elim (cond-Some (eqb (get_or bytes 0 0) 0) _ _ i h.1) [
             | inl u ↦
-                let t = there _ _ i u.1 in
-                let ab = both _ _ t.0 in
-                let a = both _ _ ab.0 in
-                SeenUnits (eqb-true _ _ u.0) (no behind a.0) (leb-true _ _ a.1) (positive _ (no _ ab.1)) t.1
+                let t = cond-Some_or_None _ _ i u.1 in
+                let ab = and-both _ _ t.0 in
+                let a = and-both _ _ ab.0 in
+                SeenUnits (eqb-true _ _ u.0) (not-true behind a.0) (leb-true _ _ a.1)
+                (eqb-positive _ (not-true _ ab.1)) t.1
             | inr n ↦
-                elim (split (eqb (get_or bytes 0 0) 1) _ _ i n.1) [
-                  | inl u ↦ let t = there _ _ i u.1 in SeenTrigger (eqb-true _ _ u.0) (leb-true _ _ t.0) t.1
+                elim (cond-Some (eqb (get_or bytes 0 0) 1) _ _ i n.1) [
+                  | inl u ↦ let t = cond-Some_or_None _ _ i u.1 in SeenTrigger (eqb-true _ _ u.0) (leb-true _ _ t.0) t.1
                   | inr n ↦
-                      elim (split (eqb (get_or bytes 0 0) 2) _ _ i n.1) [
+                      elim (cond-Some (eqb (get_or bytes 0 0) 2) _ _ i n.1) [
                         | inl u ↦
-                            let t = there _ _ i u.1 in
-                            let ab = both _ _ t.0 in
+                            let t = cond-Some_or_None _ _ i u.1 in
+                            let ab = and-both _ _ t.0 in
                             SeenWait (eqb-true _ _ u.0) (leb-true _ _ ab.0) (leb-true _ _ ab.1) t.1
-                        | inr n ↦ let t = there _ _ i n.1 in SeenReport (eqb-true _ _ t.0) long t.1
+                        | inr n ↦ let t = cond-Some_or_None _ _ i n.1 in SeenReport (eqb-true _ _ t.0) long t.1
                       ]
                 ]
           ]

@@ -12,7 +12,7 @@ use Rattle.alpha_seq.specs.State.{Program, State, Event, Went, Barriered, Overfl
 use Rattle.alpha_seq.specs.Start.{start}
 use Rattle.alpha_seq.specs.Step.{next_class}
 use Rattle.alpha_seq.specs.Run.{output, Fed}
-use Rattle.alpha_seq.proofs.Sequence.{Fed-append}
+use Rattle.alpha_seq.proofs.RunSequence.{Fed-append}
 use Rattle.alpha_imprecise.specs.StepResult.{Trap, ImpreciseEvent, Precisely, Triggered, Waited, Reported, Lost}
 use Rattle.alpha_imprecise.specs.Step.{imprecise_step}
 use Rattle.alpha_imprecise.specs.Run.{seen, ImpreciseRun, RunsOver, RunsImprecisely, imprecise_start, finished, unit_of}
@@ -20,8 +20,8 @@ use Rattle.alpha_imprecise.specs.Run.{units as units_by}
 use Rattle.alpha_imprecise.specs.ChosenRun.{end_of_imprecise_event, lost_trap}
 use Rattle.alpha_imprecise.specs.Restart.{IsRestartable}
 use Rattle.alpha_imprecise.proofs.ShownRuns.{choices_alike}
-use Rattle.alpha_imprecise.proofs.Sequence.{seen_steps-append, RunsImprecisely-append, RunsImprecisely-one}
-use Rattle.alpha_imprecise.proofs.Sequence.{units_of_steps-append, fed-one}
+use Rattle.alpha_imprecise.proofs.ImpreciseSequence.{seen_steps-append, RunsImprecisely-append, RunsImprecisely-one}
+use Rattle.alpha_imprecise.proofs.ImpreciseSequence.{units_of_steps-append, fed-one}
 use Rattle.alpha_replay.specs.declared.ending.Ending.{Ending}
 use Rattle.alpha_replay.specs.declared.ending.Ending.TheVariants as endings
 use Rattle.alpha_replay.specs.declared.item.Item.{Item}
@@ -65,9 +65,9 @@ move_units (Trips value) = 1
 move_units (Waits adds value) = 0
 move_units Reports = 0
 
-second : (a b : Bool) → (a && b) ≡ true → b ≡ true
-second true b e = e
-second false b e = absurd cc
+and-second : (a b : Bool) → (a && b) ≡ true → b ≡ true
+and-second true b e = e
+and-second false b e = absurd cc
 
 -- units are used with nothing pending
 unit_is : (o : Option Class) (s : State) (p : Option Trap) (n : ℕ) (m : Move) → fits o s p n m ≡ true
@@ -89,7 +89,7 @@ move_leads g m p q e =
     let h = t.last_event in
     let did = made_by (finished a.last_event) (move_applies o a.state a.pending p.waited m) (played_by p t) q e in
     let unit =
-    unit_is o a.state a.pending p.waited m (second (may_add o m) (fits o a.state a.pending p.waited m) did.1.0) in
+    unit_is o a.state a.pending p.waited m (and-second (may_add o m) (fits o a.state a.pending p.waited m) did.1.0) in
     subst (λ (r : Played). LeadsToPlayed g (move_units m) p r) did.1.1 (record {
       steps = h ∷ [];
       runs = RunsImprecisely-one g a (choice_of m) p.run.left did.0;
@@ -189,17 +189,17 @@ none_differs n (x ∷ xs) (y ∷ ys) e = by (λ h. none_differs (n + 1) xs ys h)
     by rest true f h = ap (λ (k : ℕ). k ∷ xs) (eqb-true x y f) ∙ ap (λ (l : List ℕ). y ∷ l) (rest h)
     by rest false f h = absurd cc
 
-or_none : {X : Type 0} (a b : Option X) → option_or a b ≡ None → (a ≡ None) × (b ≡ None)
-or_none None b e = (refl, e)
-or_none (Some x) b e = absurd cc
+option_or-to_None : {X : Type 0} (a b : Option X) → option_or a b ≡ None → (a ≡ None) × (b ≡ None)
+option_or-to_None None b e = (refl, e)
+option_or-to_None (Some x) b e = absurd cc
 
-passes : {X : Type 0} (ok : Bool) (x : X) → unless ok x ≡ None → ok ≡ true
-passes true x e = refl
-passes false x e = absurd cc
+unless-None : {X : Type 0} (ok : Bool) (x : X) → unless ok x ≡ None → ok ≡ true
+unless-None true x e = refl
+unless-None false x e = absurd cc
 
-map_none : {X Y : Type 0} (f : X → Y) (o : Option X) → option_map f o ≡ None → o ≡ None
-map_none f None e = refl
-map_none f (Some x) e = absurd cc
+option_map-to_None : {X Y : Type 0} (f : X → Y) (o : Option X) → option_map f o ≡ None → o ≡ None
+option_map-to_None f None e = refl
+option_map-to_None f (Some x) e = absurd cc
 
 no_bytes : (l : List ℕ) → eqb (length l) 0 ≡ true → l ≡ []
 no_bytes [] e = refl
@@ -233,16 +233,16 @@ record Faultless (p : Parts) (w : ImpreciseRun) : Type 0 where
 faultless : (p : Parts) (w : ImpreciseRun) → run_fault p w ≡ None → Faultless p w
 faultless p w e =
     let bytes = output (seen w.steps) in
-    let one = or_none (option_map faults.Output (first_difference 0 bytes p.output)) _ e in
-    let two = or_none (unless (ends_as p.ending w) faults.End) _ one.1 in
-    let three = or_none (unless (eqb (length w.left) 0) (faults.Input (length w.left))) None two.1 in
+    let one = option_or-to_None (option_map faults.Output (first_difference 0 bytes p.output)) _ e in
+    let two = option_or-to_None (unless (ends_as p.ending w) faults.End) _ one.1 in
+    let three = option_or-to_None (unless (eqb (length w.left) 0) (faults.Input (length w.left))) None two.1 in
     let end = and_parts (same_ending p.ending (ending_of w.at.last_event))
-    (finished w.at.last_event || is_none w.at.pending) (passes (ends_as p.ending w) faults.End two.0) in
+    (finished w.at.last_event || is_none w.at.pending) (unless-None (ends_as p.ending w) faults.End two.0) in
     record {
-      puts = none_differs 0 bytes p.output (map_none faults.Output (first_difference 0 bytes p.output) one.0);
+      puts = none_differs 0 bytes p.output (option_map-to_None faults.Output (first_difference 0 bytes p.output) one.0);
       ends = same_is p.ending (ending_of w.at.last_event) end.0;
       settled = end.1;
-      left = no_bytes w.left (passes (eqb (length w.left) 0) (faults.Input (length w.left)) three.0);
+      left = no_bytes w.left (unless-None (eqb (length w.left) 0) (faults.Input (length w.left)) three.0);
     }
 
 answer_ok : (o : Option ReplayFault) (a r : Replayed) → answer_by o a ≡ Ok r → (o ≡ None) × (a ≡ r)

@@ -5,14 +5,14 @@ use Rattle.std.specs.Prelude.{All}
 use Rattle.std.specs.List.{flat_map}
 use Rattle.std.proofs.lemmas.List.{append-nil, drop_at, drop-drop, length-drop}
 use Rattle.std.proofs.lemmas.List.Elements.{All-head, All-tail, All-nil, All-cons}
-use Rattle.alpha_image.proofs.Numbers.{IsBytes, IsBytes-drop}
+use Rattle.alpha_image.proofs.LittleEndianNumbers.{IsBytes, IsBytes-drop}
 use Rattle.alpha_replay.specs.declared.item.Item.{Item}
 use Rattle.alpha_replay.specs.Items.{item_bytes, item_size, is_units, FitsItem, AreMerged, item_in, Parsed, onto}
 use Rattle.alpha_replay.specs.Items.{parsed_then, parsed}
 use Rattle.alpha_replay.proofs.ItemBytes.{length-item_bytes, item_in-size, item_in-IsReadItem, item_in-item_bytes}
 
-abbrev parse : List Item → List ℕ → Parsed
-parse items rest = record { items = items; rest = rest }
+abbrev parsed_items : List Item → List ℕ → Parsed
+parsed_items items rest = record { items = items; rest = rest }
 
 -- the bytes of good items give them again
 pub parsed-items : (items : List Item) (rest : List ℕ) (n : ℕ) (behind : Bool)
@@ -57,7 +57,7 @@ then-Ok n rest (Some i) p e = (i, refl, onto-Ok i (rest i) p e)
 pub parsed-AreRead : (count n : ℕ) (behind : Bool) (bytes : List ℕ) (p : Parsed) → IsBytes bytes
     → parsed count n behind bytes ≡ Ok p → AreRead count behind bytes p
 parsed-AreRead zero n behind bytes p fits e =
-    let same : p ≡ parse [] bytes = cc in
+    let same : p ≡ parsed_items [] bytes = cc in
     rw same record { is = refl; fits = All-nil FitsItem; merged = tt; all = refl }
 parsed-AreRead (suc count) n behind bytes p fits e =
     let t = then-Ok n _ (item_in behind bytes) p e in
@@ -86,7 +86,8 @@ onto_all items (Err n) = Err n
 onto_all-push : (items : List Item) (i : Item) (r : Result Parsed ℕ)
     → onto_all items (onto i r) ≡ onto_all (items ++ i ∷ []) r
 unfolding onto_all
-onto_all-push items i (Ok p) = ap (λ (t : List Item). Ok (parse t p.rest)) (sym (append_assoc items (i ∷ []) p.items))
+onto_all-push items i (Ok p) =
+    ap (λ (t : List Item). Ok (parsed_items t p.rest)) (sym (append_assoc items (i ∷ []) p.items))
 onto_all-push items i (Err n) = refl
 
 -- a pass that stands behind k of the items
@@ -108,13 +109,13 @@ reading_none count bytes =
     }
 
 -- what is next of a pass
-next : (count : ℕ) (bytes : List ℕ) (k at : ℕ) (behind : Bool) (items : List Item) → k < count
+parsed-next : (count : ℕ) (bytes : List ℕ) (k at : ℕ) (behind : Bool) (items : List Item) → k < count
     → Reading count bytes k at behind items
     → parsed count 0 false bytes
     ≡ onto_all items
     (parsed_then k (λ i. parsed (count - (k + 1)) (k + 1) (is_units i) (drop (item_size i) (drop at bytes)))
     (item_in behind (drop at bytes)))
-next count bytes k at behind items lt r =
+parsed-next count bytes k at behind items lt r =
     let left : count - k ≡ suc (count - (k + 1)) = omega arith in
     r.is ∙ ap (λ (m : ℕ). onto_all items (parsed m k behind (drop at bytes))) left
 
@@ -125,7 +126,7 @@ reading_more count bytes k at behind items i lt r found =
     let rest : Item → Result Parsed ℕ =
     λ j. parsed (count - (k + 1)) (k + 1) (is_units j) (drop (item_size j) (drop at bytes)) in
     record {
-      is = next count bytes k at behind items lt r
+      is = parsed-next count bytes k at behind items lt r
           ∙ (ap (λ (o : Option Item). onto_all items (parsed_then k rest o)) found
           ∙ (ap (λ (t : List ℕ). onto_all items (onto i (parsed (count - (k + 1)) (k + 1) (is_units i) t)))
           (drop-drop (item_size i) at bytes)
@@ -141,7 +142,8 @@ unfolding onto_all
 reading_stop count bytes k at behind items lt r none =
     let rest : Item → Result Parsed ℕ =
     λ j. parsed (count - (k + 1)) (k + 1) (is_units j) (drop (item_size j) (drop at bytes)) in
-    next count bytes k at behind items lt r ∙ ap (λ (o : Option Item). onto_all items (parsed_then k rest o)) none
+    parsed-next count bytes k at behind items lt r
+    ∙ ap (λ (o : Option Item). onto_all items (parsed_then k rest o)) none
 
 pub reading_all : (count : ℕ) (bytes : List ℕ) (k at : ℕ) (behind : Bool) (items : List Item)
     → count ≤ k → Reading count bytes k at behind items
@@ -150,4 +152,4 @@ unfolding onto_all
 reading_all count bytes k at behind items le r =
     let left : count - k ≡ 0 = omega arith in
     r.is ∙ (ap (λ (m : ℕ). onto_all items (parsed m k behind (drop at bytes))) left
-    ∙ ap (λ (t : List Item). Ok (parse t (drop at bytes))) (append-nil items))
+    ∙ ap (λ (t : List Item). Ok (parsed_items t (drop at bytes))) (append-nil items))

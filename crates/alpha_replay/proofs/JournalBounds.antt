@@ -9,12 +9,12 @@ use Rattle.alpha_imprecise.specs.Run.{finished, imprecise_start, unit_of}
 use Rattle.alpha_imprecise.specs.Used.{HasUsed}
 use Rattle.alpha_imprecise.specs.ChosenRun.{ChosenRun, begun, advance_chosen_run, steps_of_chosen_run, most_words}
 use Rattle.alpha_imprecise.proofs.WordDraws.{draws_most}
-use Rattle.alpha_imprecise.proofs.Drawn.{IsMade, steps-chosen_run, begun-chosen_run}
+use Rattle.alpha_imprecise.proofs.DrawnRuns.{IsMade, steps-chosen_run, begun-chosen_run}
 use Rattle.alpha_imprecise.proofs.StepBounds.{IsWithin-nothing_pending}
 use Rattle.alpha_imprecise.proofs.PendingTraps.{advance_chosen_run-going, made_is}
 use Rattle.alpha_replay.specs.Journaled.{journal_at, is_within, has_stopped, steps_journaled, IsJournaled}
 use Rattle.alpha_replay.proofs.JournaledRuns.{going_of, steps_run}
-use Rattle.alpha_replay.proofs.LongerBound.{next_journaled}
+use Rattle.alpha_replay.proofs.LongerRuns.{next_journaled}
 
 -- ---- where the run of all units is, the run with its journal has stopped
 
@@ -64,9 +64,10 @@ module _ (n : ℕ) (g : Program) (from : ChosenRun) where
           absurd (let no : true ≡ false = sym stopped ∙ (ap (has_stopped n g.completion) (sym stays) ∙ e) in cc)
       by before false going = next_journaled n g from m going ∙ ap (advance_chosen_run g) (before going)
 
-  stops_by : (m : ℕ) → HasUsed n (steps_of_chosen_run g from m).run.units (steps_of_chosen_run g from m).run.at
+  IsJournaled-within_used : (m : ℕ)
+      → HasUsed n (steps_of_chosen_run g from m).run.units (steps_of_chosen_run g from m).run.at
       → (k : ChosenRun) × IsJournaled n g from k
-  stops_by m used = by (has_stopped n g.completion (steps_journaled n g from m)) refl
+  IsJournaled-within_used m used = by (has_stopped n g.completion (steps_journaled n g from m)) refl
     where
       by : (b : Bool) → has_stopped n g.completion (steps_journaled n g from m) ≡ b
           → (k : ChosenRun) × IsJournaled n g from k
@@ -103,7 +104,7 @@ pub some_place : (n : ℕ) (g : Program) (s : State) (input words : List ℕ)
 some_place n g s input words =
     let from = begun s input None 0 words in
     let within = IsWithin-nothing_pending g from n refl in
-    stops_by n g from within.steps
+    IsJournaled-within_used n g from within.steps
     (subst (λ (k : ChosenRun). HasUsed n k.run.units k.run.at) (sym within.reached) (made_is g from n refl refl))
 
 -- on its way there it has used no more than its units, and has drawn no more words than these

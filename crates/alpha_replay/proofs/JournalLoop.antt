@@ -19,12 +19,12 @@ use Rattle.alpha_imprecise.specs.ChosenRun.{ChosenRun, shown_chosen_run, advance
 use Rattle.alpha_imprecise.specs.Restart.{NeverLoses}
 use Rattle.alpha_imprecise.specs.ImpreciseState.{ImpreciseState, trap_in, waited_in, step_result_of, begun_at}
 use Rattle.alpha_imprecise.specs.ImpreciseStepEffect.{ImpreciseStep, ImpreciseStateAfterFault, imprecise_units}
-use Rattle.alpha_imprecise.proofs.Drawn.{drawn_told}
+use Rattle.alpha_imprecise.proofs.DrawnRuns.{drawn_told}
 use Rattle.alpha_run.specs.Row.{Row, AreGoing, units_of, seen_by}
 use Rattle.alpha_run.specs.RunEffect.{ends_at, ContinuesRun, EndsRun, RunsTo, IsPrefixRun}
 use Rattle.alpha_run.specs.ImpreciseRan.{moment_at, ended_as, ImprecisePrefixRun}
 use Rattle.alpha_run.proofs.RunsOfAccepted.{loses_none}
-use Rattle.alpha_run.proofs.Rows.{seen_by-append}
+use Rattle.alpha_run.proofs.StepRows.{seen_by-append}
 use Rattle.alpha_run.proofs.ImpreciseRuns.{WritesLines, steps_of, last_imprecise_event, finished-last_imprecise_event}
 use Rattle.alpha_run.proofs.ImpreciseRuns.{row_ran, finished-is_over}
 use Rattle.alpha_run.proofs.ImpreciseRuns.{ends-shown, goes_ran, stopped_ran, IsPrefixRun-ImprecisePrefixRun}
@@ -50,17 +50,17 @@ use Rattle.alpha_replay.proofs.RecorderNotes.{after_fits, unstopped_fit, fit_uns
 use Rattle.alpha_replay.proofs.RecordedSteps.{builder_of, builder_more, built_on, built_over, AllFit, fits_over}
 use Rattle.alpha_replay.proofs.RecordedSteps.{builder_over}
 use Rattle.alpha_replay.proofs.RecordedSteps.{going_row-GoesOver, goes_at, goes-last}
-use Rattle.alpha_replay.proofs.LongerBound.{goes_past}
+use Rattle.alpha_replay.proofs.LongerRuns.{goes_past}
 
 -- the recorder before the first step
-abbrev pub blank : Recorder
-blank = record { builder = builder_state [] [] no_moves; full = false }
+abbrev pub first_recorder : Recorder
+first_recorder = record { builder = builder_state [] [] no_moves; full = false }
 
-abbrev empty : BuilderState
-empty = builder_state [] [] no_moves
+abbrev empty_builder : BuilderState
+empty_builder = builder_state [] [] no_moves
 
-pub recording-WritesLines : WritesLines recording false blank
-recording-WritesLines = λ ps. lines_same blank ps
+pub recording-WritesLines : WritesLines recording false first_recorder
+recording-WritesLines = λ ps. lines_same first_recorder ps
 
 -- ---- how a run ended
 
@@ -91,19 +91,19 @@ spent_by n used true false pending calm full =
     ap (λ (o : Option Pending). is_none (trap_in o) && (used == n)) calm ∙ eq-eqb used n full
 spent_by n used false over pending calm full = refl
 
-spent : (n left : ℕ) (old new : ImpreciseState) (to : Recorder)
+Records-spent : (n left : ℕ) (old new : ImpreciseState) (to : Recorder)
     (before after : Oracle) (input : Drawn) (out sink : SinkChange)
     → left < imprecise_units new
-    → (one : ContinuesRun ImpreciseStep recording n left old new blank to before after input out sink)
-    → let t = built_over empty one.labels in
+    → (one : ContinuesRun ImpreciseStep recording n left old new first_recorder to before after input out sink)
+    → let t = built_over empty_builder one.labels in
     made.Records n None
     (parts old.machine.completion endings.Spent t.taken t.put (closed t.gathered)) old new before after input out sink
 unfolding goes_ran
-spent n left old new to before after input out sink least one =
+Records-spent n left old new to before after input out sink least one =
     let ps = one.labels in
     let none = calm_left left new.pending least in
-    let t = built_over empty ps in
-    let all = unstopped_fit blank ps one.unstopped in
+    let t = built_over empty_builder ps in
+    let all = unstopped_fit first_recorder ps one.unstopped in
     let full : units_of ps ≡ n = omega (arith, one.used, none.1) in
     let h = last_imprecise_event old new (Precisely Went) ps one.row in
     let hs = steps_of old new ps one.row in
@@ -116,7 +116,8 @@ spent n left old new to before after input out sink least one =
         most = omega (arith, full);
         ran =
             goes_ran recording
-            (units_of ps) n left false old new blank to before after input out sink recording-WritesLines one.used one;
+            (units_of ps) n left false old new first_recorder to before after input out sink recording-WritesLines
+            one.used one;
         goes_over =
             going_row-GoesOver n (program_of old.machine) 0 []
             (Precisely Went) old new ps refl refl refl all one.going one.row
@@ -128,7 +129,7 @@ spent n left old new to before after input out sink least one =
           ap (λ (b : Bool). b || is_none (trap_in new.pending)) on
           ∙ ap (λ (o : Option Pending). is_none (trap_in o)) none.0;
       full = λ e. full;
-      within = fits_over empty ps refl all;
+      within = fits_over empty_builder ps refl all;
       is = ap (λ (e : Ending). parts old.machine.completion e t.taken t.put (closed t.gathered)) (sym (going_as h on).1)
           ∙ ap (λ (x : BuilderState). parts old.machine.completion (ending_of h) x.taken x.put (closed x.gathered))
           tape;
@@ -136,7 +137,7 @@ spent n left old new to before after input out sink least one =
 
 -- ---- a last step
 
-module _ (n : ℕ) (old mid new : ImpreciseState) (ps : List StepLabel) (p : StepLabel) (all : AllFit empty ps)
+module _ (n : ℕ) (old mid new : ImpreciseState) (ps : List StepLabel) (p : StepLabel) (all : AllFit empty_builder ps)
     (going : AreGoing ps) (row : Row ImpreciseStep old ps mid)
     (is : ImpreciseStep mid p new) (room : units_of ps + p.units ≤ n) where
   abbrev hs : List ImpreciseEvent
@@ -147,7 +148,7 @@ module _ (n : ℕ) (old mid new : ImpreciseState) (ps : List StepLabel) (p : Ste
 
   -- the tape before it, and with it
   abbrev before_last : BuilderState
-  before_last = built_over empty ps
+  before_last = built_over empty_builder ps
 
   abbrev with_last : BuilderState
   with_last = built_on before_last p
@@ -165,7 +166,7 @@ module _ (n : ℕ) (old mid new : ImpreciseState) (ps : List StepLabel) (p : Ste
       let ran = row_ran (program_of old.machine) false ps (Precisely Went) old mid refl refl row going in
       goes_at n (units (program_of old.machine) (moment_at old) hs) old.machine.completion hs
       (last_imprecise_event old mid (Precisely Went) ps row) mid
-      (subst (λ (t : BuilderState). builder_fits t ≡ true) builder_before (fits_over empty ps refl all))
+      (subst (λ (t : BuilderState). builder_fits t ≡ true) builder_before (fits_over empty_builder ps refl all))
       (finished-last_imprecise_event old mid (Precisely Went) refl ps row going)
       (omega (arith, ran.used, is.step.units, room))
 
@@ -204,22 +205,22 @@ module _ (n : ℕ) (old mid new : ImpreciseState) (ps : List StepLabel) (p : Ste
 
 -- the recorder behind it
 seen_last : (ps : List StepLabel) (p : StepLabel) (to : Recorder)
-    → AllFit empty ps → to ≡ seen_by recorded_after blank (ps ++ p ∷ [])
-    → to ≡ recorded_after (record { builder = built_over empty ps; full = false }) p.event p.core
+    → AllFit empty_builder ps → to ≡ seen_by recorded_after first_recorder (ps ++ p ∷ [])
+    → to ≡ recorded_after (record { builder = built_over empty_builder ps; full = false }) p.event p.core
 seen_last ps p to all seen =
     seen
-    ∙ (seen_by-append recorded_after blank ps (p ∷ [])
-    ∙ ap (λ (r : Recorder). recorded_after r p.event p.core) (fit_unstopped blank ps all).1)
+    ∙ (seen_by-append recorded_after first_recorder ps (p ∷ [])
+    ∙ ap (λ (r : Recorder). recorded_after r p.event p.core) (fit_unstopped first_recorder ps all).1)
 
 module _ (n left : ℕ) (event : SeenEvent) (old new : ImpreciseState) (to : Recorder) (before after : Oracle)
     (input : Drawn)
     (out sink : SinkChange)
-    (one : EndsRun ImpreciseStep recording n left event old new blank to before after input out sink) where
-  abbrev all_fit : AllFit empty one.labels
-  all_fit = unstopped_fit blank one.labels one.unstopped
+    (one : EndsRun ImpreciseStep recording n left event old new first_recorder to before after input out sink) where
+  abbrev all_fit : AllFit empty_builder one.labels
+  all_fit = unstopped_fit first_recorder one.labels one.unstopped
 
   abbrev fits_last : BuilderState
-  fits_last = built_on (built_over empty one.labels) one.label
+  fits_last = built_on (built_over empty_builder one.labels) one.label
 
   pub prefix_units-room : units_of one.labels + one.label.units ≤ n
   prefix_units-room = omega (arith, one.used)
@@ -227,7 +228,7 @@ module _ (n left : ℕ) (event : SeenEvent) (old new : ImpreciseState) (to : Rec
   pub is_last : (not (builder_fits fits_last) || is_over one.label.event) ≡ true
   is_last =
       subst (λ (r : Recorder). ends_at recording r one.label.event one.label.core ≡ true)
-      (fit_unstopped blank one.labels all_fit).1 one.ends
+      (fit_unstopped first_recorder one.labels all_fit).1 one.ends
 
   unfoldable pub journal-JournalStops : made.JournalStops n one.is.step.last_event old new before after input out sink
   unfolding stopped_ran
@@ -235,7 +236,8 @@ module _ (n left : ℕ) (event : SeenEvent) (old new : ImpreciseState) (to : Rec
     units = units_of one.labels + one.label.units;
     most = prefix_units-room;
     ran =
-        stopped_ran recording n left event false old new blank to before after input out sink recording-WritesLines one;
+        stopped_ran recording n left event false old new first_recorder to before after input out sink
+        recording-WritesLines one;
     goes_over = goes_all n old one.mid new one.labels one.label all_fit one.going one.row one.is prefix_units-room;
     stopped =
         stops_all n old one.mid new one.labels one.label all_fit one.going one.row one.is prefix_units-room
@@ -322,16 +324,18 @@ module _ (fault : Fault) (n : ℕ) {rest : ℕ} (old new : ImpreciseState) (befo
 
 cut_short : (fault : Fault) (n left : ℕ) (old new : ImpreciseState) (before after : Oracle) (input : Drawn)
     (out sink : SinkChange)
-    → IsPrefixRun fault ImpreciseStep ImpreciseStateAfterFault recording n left old new blank before after input out
+    → IsPrefixRun fault ImpreciseStep ImpreciseStateAfterFault recording n left old new first_recorder before after
+    input out
     sink
     → made.IsShort n fault old new before after input out sink
 unfolding IsPrefixRun-ImprecisePrefixRun
 cut_short fault n left old new before after input out sink one =
     let ps = one.labels in
     let p = one.label in
-    let all = unstopped_fit blank ps one.unstopped in
+    let all = unstopped_fit first_recorder ps one.unstopped in
     let most : units_of ps + p.units ≤ n = omega (arith, one.used) in
-    let cut = IsPrefixRun-ImprecisePrefixRun recording fault n left false old new blank before after input out sink
+    let cut =
+    IsPrefixRun-ImprecisePrefixRun recording fault n left false old new first_recorder before after input out sink
     recording-WritesLines one in
     record {
       unused = left;
@@ -347,7 +351,7 @@ cut_short fault n left old new before after input out sink one =
 
 pub made_ok : (last : Option SeenEvent) (n left : ℕ) (old new : ImpreciseState)
     (from to : Recorder) (before after : Oracle) (input : Drawn) (out sink : SinkChange)
-    → from ≡ blank
+    → from ≡ first_recorder
     → RunsTo last ImpreciseStep imprecise_units recording n left old new from to before after input out sink
     → made.MakesJournal (outcome last old.machine.completion to) n old new before after input out sink
 made_ok last n left old new from to before after input out sink start did =
@@ -355,27 +359,28 @@ made_ok last n left old new from to before after input out sink start did =
     RunsTo last ImpreciseStep imprecise_units recording n left old new r to before after input out sink) start did)
   where
     by : (last : Option SeenEvent)
-        → RunsTo last ImpreciseStep imprecise_units recording n left old new blank to before after input out sink
+        → RunsTo last ImpreciseStep imprecise_units recording n left old new first_recorder to before after input out
+        sink
         → made.MakesJournal (outcome last old.machine.completion to) n old new before after input out sink
     by None did =
         let one = did.1 in
-        let all = unstopped_fit blank one.labels one.unstopped in
-        let seen : record { builder = built_over empty one.labels; full = false } ≡ to =
-        sym (one.effect.seen ∙ (fit_unstopped blank one.labels all).1) in
+        let all = unstopped_fit first_recorder one.labels one.unstopped in
+        let seen : record { builder = built_over empty_builder one.labels; full = false } ≡ to =
+        sym (one.effect.seen ∙ (fit_unstopped first_recorder one.labels all).1) in
         subst (λ (r : Recorder).
         made.MakesJournal (outcome None old.machine.completion r) n old new before after input out sink)
         seen
-        (spent n left old new to before after input out sink did.0 one)
+        (Records-spent n left old new to before after input out sink did.0 one)
     by (Some event) one = fits (builder_fits tape) refl
       where
         tape : BuilderState
-        tape = built_on (built_over empty one.labels) one.label
+        tape = built_on (built_over empty_builder one.labels) one.label
 
         reached : Recorder
-        reached = record { builder = built_over empty one.labels; full = false }
+        reached = record { builder = built_over empty_builder one.labels; full = false }
 
         seen : to ≡ recorded_after reached one.label.event one.label.core
-        seen = seen_last one.labels one.label to (unstopped_fit blank one.labels one.unstopped) one.effect.seen
+        seen = seen_last one.labels one.label to (unstopped_fit first_recorder one.labels one.unstopped) one.effect.seen
 
         fits : (b : Bool) → builder_fits tape ≡ b
             → made.MakesJournal (outcome (Some event) old.machine.completion to) n old new before after input out sink
@@ -398,7 +403,7 @@ made_ok last n left old new from to before after input out sink start did =
 
 pub made_err : (fault : Fault) (n left : ℕ) (old new : ImpreciseState)
     (from : Recorder) (before after : Oracle) (input : Drawn) (out sink : SinkChange)
-    → from ≡ blank
+    → from ≡ first_recorder
     → IsPrefixRun fault ImpreciseStep ImpreciseStateAfterFault recording n left old new from before after input out sink
     → made.IsShort n fault old new before after input out sink
 made_err fault n left old new from before after input out sink start did =

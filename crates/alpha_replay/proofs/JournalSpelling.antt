@@ -11,7 +11,7 @@ use Rattle.std.proofs.lemmas.List.{drop_at, drop-drop, nil_from_length}
 use Rattle.std.proofs.lemmas.List.Elements.{All-from_get_or}
 use Rattle.alpha_image.specs.Parts.{IsByte}
 use Rattle.alpha_image.specs.FirstOf.{unless}
-use Rattle.alpha_image.proofs.Numbers.{IsBytes, IsBytes-take, IsBytes-drop, quadword_at-lt}
+use Rattle.alpha_image.proofs.LittleEndianNumbers.{IsBytes, IsBytes-take, IsBytes-drop, quadword_at-lt}
 use Rattle.alpha_image.proofs.FieldRules.{option_or-both_none, unless-none}
 use Rattle.alpha_image.proofs.CodeWords.{option_map-none}
 use Rattle.alpha_replay.specs.declared.fault.JournalFault.{JournalFault}
@@ -26,9 +26,9 @@ use Rattle.alpha_replay.specs.Reading.{parts_of}
 use Rattle.alpha_replay.specs.JournalFault.{bad_field, header_fault, items_fault, first_fault, Refuses}
 use Rattle.alpha_replay.specs.Scanned.{GivesItems}
 use Rattle.alpha_replay.proofs.ItemRows.{AreRead, parsed-AreRead, parsed-items}
-use Rattle.alpha_replay.proofs.Fields.{FieldsFit, bad_field-FieldsFit, FieldsFit-bad_field, number-completion_in}
-use Rattle.alpha_replay.proofs.Fields.{completion_in-number, completion_number-lt, ending_in-HasNumbers}
-use Rattle.alpha_replay.proofs.Fields.{ending_in-numbers, ending_kind-lt, unused_are_zero-ending}
+use Rattle.alpha_replay.proofs.HeaderFields.{FieldsFit, bad_field-FieldsFit, FieldsFit-bad_field, number-completion_in}
+use Rattle.alpha_replay.proofs.HeaderFields.{completion_in-number, completion_number-lt, ending_in-HasNumbers}
+use Rattle.alpha_replay.proofs.HeaderFields.{ending_in-numbers, ending_kind-lt, unused_are_zero-ending}
 use Rattle.alpha_replay.proofs.HeaderBytes.{starts_magic, starts_with-journal_header, length-journal_header, HeaderFits}
 use Rattle.alpha_replay.proofs.HeaderBytes.{numbers_in-journal_header}
 use Rattle.alpha_replay.proofs.HeaderBytes.{journal_header-numbers_in}
@@ -93,10 +93,10 @@ are_items bytes p has = ap items_or_none has.is
 all_bytes : (bytes : List ℕ) → IsBytes bytes → All IsByte bytes
 all_bytes bytes fits = All-from_get_or IsByte bytes 0 (λ i _. fits i)
 
-fitting-numbers : (bytes : List ℕ) → IsBytes bytes → FieldsFit (numbers_in bytes)
+FieldsFit-numbers_in : (bytes : List ℕ) → IsBytes bytes → FieldsFit (numbers_in bytes)
     → FitsEnding (ending_in (numbers_in bytes).kind (numbers_in bytes).first (numbers_in bytes).second)
 unfolding numbers_in
-fitting-numbers bytes fits fields =
+FieldsFit-numbers_in bytes fits fields =
     let n = numbers_in bytes in
     let has = ending_in-HasNumbers n.kind n.first n.second fields.kind fields.unused in
     record {
@@ -126,7 +126,7 @@ IsJournal-parts_of bytes p fits front has =
     let n = numbers_in bytes in
     let read = read_items bytes p fits has in
     rw (are_items bytes p has) record {
-      ending = fitting-numbers bytes fits front.fields;
+      ending = FieldsFit-numbers_in bytes fits front.fields;
       input = all_bytes _ (IsBytes-take n.input (drop 38 bytes) (IsBytes-drop 38 bytes fits));
       output = all_bytes _ (IsBytes-take n.output (drop (38 + n.input) bytes) (IsBytes-drop (38 + n.input) bytes fits));
       items = read.fits;
@@ -193,8 +193,8 @@ journal-no_fault bytes fits none =
 
 -- ---- the other way round
 
-fit : (p : Parts) → IsJournal p → HeaderFits (numbers p)
-fit p good =
+HeaderFits-numbers : (p : Parts) → IsJournal p → HeaderFits (numbers p)
+HeaderFits-numbers p good =
     record {
       first = good.ending.first;
       second = good.ending.second;
@@ -206,10 +206,11 @@ fit p good =
 pub numbers_in-spelling : (p : Parts) → IsJournal p → numbers_in (spelling p) ≡ numbers p
 unfolding spelling
 numbers_in-spelling p good =
-    numbers_in-journal_header (numbers p) (p.input ++ (p.output ++ flat_map item_bytes p.items)) (fit p good)
+    numbers_in-journal_header (numbers p) (p.input ++ (p.output ++ flat_map item_bytes p.items))
+    (HeaderFits-numbers p good)
 
-fields : (p : Parts) → IsJournal p → FieldsFit (numbers p)
-fields p good =
+FieldsFit-numbers : (p : Parts) → IsJournal p → FieldsFit (numbers p)
+FieldsFit-numbers p good =
     record {
       completion = completion_number-lt p.completion;
       kind = ending_kind-lt p.ending;
@@ -237,7 +238,7 @@ header_fault-spelling p good =
     let rest = p.input ++ (p.output ++ flat_map item_bytes p.items) in
     let long = le-leb 38 (length t) (omega (arith, length-spelling p)) in
     let bad : bad_field (numbers_in t) ≡ None =
-    ap bad_field (numbers_in-spelling p good) ∙ FieldsFit-bad_field (numbers p) (fields p good) in
+    ap bad_field (numbers_in-spelling p good) ∙ FieldsFit-bad_field (numbers p) (FieldsFit-numbers p good) in
     let whole : leb (items_at (numbers_in t)) (length t) ≡ true =
     ap (λ (n : Numbers). leb (items_at n) (length t)) (numbers_in-spelling p good)
     ∙ le-leb (items_at (numbers p)) (length t) (omega (arith, length-spelling p)) in

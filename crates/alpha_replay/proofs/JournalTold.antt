@@ -9,15 +9,15 @@ use Rattle.alpha_seq.specs.Start.{start}
 use Rattle.alpha_seq.specs.Run.{output, taken, notes as notes_of}
 use Rattle.alpha_seq.specs.Machine.{program_of}
 use Rattle.alpha_seq.specs.Devices.{Drawn}
-use Rattle.alpha_seq.proofs.Fronts.{fed_all}
+use Rattle.alpha_seq.proofs.InputPrefixes.{fed_all}
 use Rattle.alpha_imprecise.specs.ChosenRun.{ChosenRun, begun, first_words, most_words, shown_chosen_run}
 use Rattle.alpha_imprecise.specs.StepResult.{ImpreciseEvent}
 use Rattle.alpha_imprecise.specs.Run.{seen, units}
 use Rattle.alpha_imprecise.specs.Oracle.{Oracle}
 use Rattle.alpha_imprecise.specs.ImpreciseState.{ImpreciseState, trap_in, waited_in, step_result_of, begun_at, IsFresh}
-use Rattle.alpha_imprecise.proofs.Fresh.{begun_fresh, told_starts}
+use Rattle.alpha_imprecise.proofs.FreshRuns.{begun_fresh, told_starts}
 use Rattle.alpha_imprecise.proofs.WordDraws.{words_most}
-use Rattle.alpha_imprecise.proofs.Drawn.{drawn_told}
+use Rattle.alpha_imprecise.proofs.DrawnRuns.{drawn_told}
 use Rattle.alpha_run.specs.ImpreciseRan.{moment_at}
 use Rattle.alpha_run.proofs.ImpreciseShown.{few_cut}
 use Rattle.alpha_replay.specs.declared.journal_end.JournalEnd.{JournalEnd}

@@ -9,10 +9,10 @@ use Rattle.alpha_image.specs.FirstOf.{unless, first_of}
 use Rattle.alpha_seq.specs.State.{Program}
 use Rattle.alpha_seq.specs.Start.{start}
 use Rattle.alpha_seq.specs.Run.{taken, output}
-use Rattle.alpha_seq.proofs.Fronts.{fed_all}
+use Rattle.alpha_seq.proofs.InputPrefixes.{fed_all}
 use Rattle.alpha_imprecise.specs.Run.{seen, ImpreciseRun, finished, imprecise_start}
 use Rattle.alpha_imprecise.specs.ChosenRun.{ChosenRun, begun}
-use Rattle.alpha_imprecise.proofs.Drawn.{IsMade, steps-chosen_run, begun-chosen_run}
+use Rattle.alpha_imprecise.proofs.DrawnRuns.{IsMade, steps-chosen_run, begun-chosen_run}
 use Rattle.alpha_replay.specs.declared.ending.Ending.{Ending}
 use Rattle.alpha_replay.specs.declared.replay_fault.ReplayFault.TheVariants as faults
 use Rattle.alpha_replay.specs.declared.replaying.Replayed.{Replayed}

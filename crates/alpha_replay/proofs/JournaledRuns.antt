@@ -20,7 +20,7 @@ use Rattle.alpha_imprecise.specs.Chosen.{most_waited, first_word, must_report, r
 use Rattle.alpha_imprecise.specs.Chosen.{draw_at, draw, chosen}
 use Rattle.alpha_imprecise.specs.ChosenRun.{ChosenRun, advance_chosen_run, steps_of_chosen_run}
 use Rattle.alpha_imprecise.proofs.ChoicesMade.{is_quiet, step-is_quiet}
-use Rattle.alpha_imprecise.proofs.Landed.{report_at}
+use Rattle.alpha_imprecise.proofs.ReportLandings.{report_at}
 use Rattle.alpha_imprecise.proofs.EffectiveChoices.{imprecise_step-HasEffectiveChoice}
 use Rattle.alpha_imprecise.proofs.PendingTraps.{advance_chosen_run-going}
 use Rattle.alpha_replay.specs.declared.item.Item.{Item}
@@ -108,13 +108,13 @@ found_move : (g : Program) (s : State) (t : Trap) (found : Option ℕ) → IsMov
 found_move g s t None = record { move = refl; choice = refl }
 found_move g s t (Some at) = lands_move g s at (stops g.completion)
 
-can : (a b : Bool) → (not a || b) ≡ false → a ≡ true
-can true b e = refl
-can false b e = sym e
+not_or-false : (a b : Bool) → (not a || b) ≡ false → a ≡ true
+not_or-false true b e = refl
+not_or-false false b e = sym e
 
-moved : (g : Program) (o : Option Class) (s : State) (p : Option Trap) (n : ℕ) (words input : List ℕ)
+IsMove-noted : (g : Program) (o : Option Class) (s : State) (p : Option Trap) (n : ℕ) (words input : List ℕ)
     → IsMove (noted_at o s p n words) (imprecise_step_at g o s p (draw_at o s p n words).choice input)
-moved g o s None n words input = by (triggers o s) refl
+IsMove-noted g o s None n words input = by (triggers o s) refl
   where
     by : (b : Bool) → triggers o s ≡ b
         → IsMove (cond b (Trips (first_word words)) One)
@@ -122,7 +122,7 @@ moved g o s None n words input = by (triggers o s) refl
         (precisely (step g o s input)))
     by true e = record { move = refl; choice = refl }
     by false e = quiet_move (step g o s input).state (step g o s input).event (step-is_quiet g o s input e)
-moved g o s (Some t) n words input = by (must_report o s n) refl (eqb (first_word words % 4) 0)
+IsMove-noted g o s (Some t) n words input = by (must_report o s n) refl (eqb (first_word words % 4) 0)
   where
     by : (m : Bool) → must_report o s n ≡ m → (c : Bool)
         → IsMove (cond m Reports
@@ -136,7 +136,7 @@ moved g o s (Some t) n words input = by (must_report o s n) refl (eqb (first_wor
         subst
         (λ (b : Bool). IsMove (Waits (eqb (first_word words / 4 % 2) 1 && adds_here o) (first_word (drop 1 words)))
         (cond (not b) (report g s t) (waited o s t (executing (first_word words) (first_word (drop 1 words))).choice)))
-        (sym (can (can_wait o s) (nat_le most_waited n) e)) (record { move = refl; choice = refl })
+        (sym (not_or-false (can_wait o s) (nat_le most_waited n) e)) (record { move = refl; choice = refl })
 
 -- a run that is made, as one that is played
 abbrev pub played_in : ChosenRun → Played
@@ -153,7 +153,7 @@ making_moves g k going =
     let a = k.run.at in
     let d = draw g a.state a.pending k.waited k.words in
     let m = next_chosen g k in
-    let is = moved g o a.state a.pending k.waited k.words k.run.left in
+    let is = IsMove-noted g o a.state a.pending k.waited k.words k.run.left in
     let fits : move_applies o a.state a.pending k.waited (move_of m.last_event) ≡ true =
     ap (λ (x : Move). move_applies o a.state a.pending k.waited x) (sym is.move)
     ∙ suits_at o a.state a.pending k.waited k.words in

@@ -48,11 +48,11 @@ units_over n g (h ∷ hs) used before a most goes =
 
 -- ---- steps behind others
 
-shifted : (n : ℕ) (completion : Completion) (u v w : ℕ) (before : List ImpreciseEvent) (h : ImpreciseEvent)
+stops_at-regrouped : (n : ℕ) (completion : Completion) (u v w : ℕ) (before : List ImpreciseEvent) (h : ImpreciseEvent)
     (hs : List ImpreciseEvent) (b : StepResult)
     → stops_at n completion (u + (v + w)) (before ++ h ∷ hs) b
     ≡ stops_at n completion ((u + v) + w) ((before ++ h ∷ []) ++ hs) b
-shifted n completion u v w before h hs b =
+stops_at-regrouped n completion u v w before h hs b =
     ap (λ k. stops_at n completion k (before ++ h ∷ hs) b) (let e : u + (v + w) ≡ (u + v) + w = omega arith in e)
     ∙ ap (λ l. stops_at n completion ((u + v) + w) l b) (sym (append_assoc before (h ∷ []) hs))
 
@@ -114,7 +114,8 @@ first_stop n g (h ∷ hs) used before a b waited words rest run draws stopped =
     by (stops_at n g.completion used before a) refl
     (first_stop n g hs (used + unit_of a.pending) (before ++ h ∷ []) (next_step_result g a h) b (waited_after h waited)
     (drop n1 words) rest run.2 draws.1
-    (sym (shifted n g.completion used (unit_of a.pending) (units g (next_step_result g a h) hs) before h hs b)
+    (sym
+    (stops_at-regrouped n g.completion used (unit_of a.pending) (units g (next_step_result g a h) hs) before h hs b)
     ∙ stopped))
   where
     by : (c : Bool) → stops_at n g.completion used before a ≡ c
@@ -130,7 +131,7 @@ first_stop n g (h ∷ hs) used before a b waited words rest run draws stopped =
       draws = (draws.0, r.draws);
       goes_over = (e, r.goes_over);
       stopped =
-          shifted n g.completion used (unit_of a.pending)
+          stops_at-regrouped n g.completion used (unit_of a.pending)
           (units g (next_step_result g a h) r.steps) before h r.steps r.at
           ∙ r.stopped;
     }

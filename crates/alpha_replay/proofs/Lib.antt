@@ -3,7 +3,7 @@ pub mod StepBytes
 pub mod MovesOfSteps
 pub mod RecordedSteps
 pub mod JournaledRuns
-pub mod LongerBound
+pub mod LongerRuns
 pub mod ChosenJournals
 pub mod GatheredCounts
 pub mod RecorderNotes
@@ -15,7 +15,7 @@ pub mod InputPrefixes
 pub mod JournaledReplays
 pub mod ItemBytes
 pub mod ItemRows
-pub mod Fields
+pub mod HeaderFields
 pub mod HeaderBytes
 pub mod JournalSpelling
 pub mod MovedSteps

@@ -26,8 +26,8 @@ use Rattle.alpha_replay.specs.Listed.{Played, played_by, move, units, item, list
 use Rattle.alpha_replay.specs.ReplayEffect.{Place, place, program_at, IsLast, played_at, ReplayEffect, Fails, Plays}
 use Rattle.alpha_replay.specs.ReplayEffect.{StopsAt, Moved}
 use Rattle.alpha_imprecise.proofs.EffectiveChoices.{asked_for, left_behind, over_by, fed_split}
-use Rattle.alpha_imprecise.proofs.Sequence.{seen_steps-append}
-use Rattle.alpha_run.proofs.Rows.{output-append}
+use Rattle.alpha_imprecise.proofs.ImpreciseSequence.{seen_steps-append}
+use Rattle.alpha_run.proofs.StepRows.{output-append}
 use Rattle.std.proofs.lemmas.List.{length-drop}
 use Rattle.alpha_replay.proofs.MovesOfSteps.{MoveFits, given-fits, said_last}
 use Rattle.alpha_replay.proofs.StepBytes.{passed-took}
@@ -35,10 +35,10 @@ use Rattle.alpha_replay.proofs.StepBytes.{passed-took}
 -- ---- one move
 
 -- the next move, by the tests that it must pass
-abbrev tested : Bool → Bool → Played → Option Played
-tested over suit p = cond (not over && suit) (Some p) None
+abbrev move_if : Bool → Bool → Played → Option Played
+move_if over suit p = cond (not over && suit) (Some p) None
 
-tested_suits : (over : Bool) (p : Played) → tested over false p ≡ None
+tested_suits : (over : Bool) (p : Played) → move_if over false p ≡ None
 tested_suits true p = refl
 tested_suits false p = refl
 
@@ -59,7 +59,7 @@ module _ (m : Move) (old : ImpreciseState) (input : List ℕ) (from : Cursor) wh
       (imprecise_step g (state_of old.machine) (trap_in old.pending) (choice_of m) input)
 
   pub fails_over : is_over from.last ≡ true → Fails (λ g p. move g p m) from_place
-  fails_over e = λ h last before n. ap (λ (b : Bool). tested b suits_here (moved_here h before n)) (sym last.over ∙ e)
+  fails_over e = λ h last before n. ap (λ (b : Bool). move_if b suits_here (moved_here h before n)) (sym last.over ∙ e)
 
   module _ (new : ImpreciseState) (left : List ℕ) (last : Event) (moved : Moved m last old new input left) where
     abbrev c : Choice
@@ -79,7 +79,7 @@ module _ (m : Move) (old : ImpreciseState) (input : List ℕ) (from : Cursor) wh
 
     pub fails_fitting : (move_by last ≡ m → ⊥) → Fails (λ g p. move g p m) from_place
     fails_fitting other = λ h is before n.
-        ap (λ (b : Bool). tested (finished h) b (moved_here h before n))
+        ap (λ (b : Bool). move_if (finished h) b (moved_here h before n))
         (fits_as.other (λ (is : move_by p.event ≡ m). other (ap move_by (sym moved.event_is) ∙ is)))
         ∙ tested_suits (finished h) (moved_here h before n)
 
@@ -133,8 +133,8 @@ module _ (m : Move) (old : ImpreciseState) (input : List ℕ) (from : Cursor) wh
           } in (
             went,
             last_so,
-            ap (λ (b : Bool). tested b suits_here (moved_here h before n)) (sym is.over ∙ goes)
-                ∙ (ap (λ (b : Bool). tested false b (moved_here h before n)) suit.0
+            ap (λ (b : Bool). move_if b suits_here (moved_here h before n)) (sym is.over ∙ goes)
+                ∙ (ap (λ (b : Bool). move_if false b (moved_here h before n)) suit.0
                 ∙ (ap (λ (t : StepResult). Some (played_by (played_at from_place h before n) t))
                 (suit.1 input ∙ steps_so)
                 ∙ (ap (λ (l : List ℕ). Some (played l (waited_after went (waited_in old.pending)))) answer_is.1

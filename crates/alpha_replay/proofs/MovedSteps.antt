@@ -20,30 +20,31 @@ use Rattle.alpha_replay.specs.FixedChoice.{gives_pick, gives_value, given_choice
 use Rattle.alpha_replay.specs.ReplayEffect.{Moved}
 
 -- the choice is the one that is given
-chosen : (a : Asked) (choice : Choice) (before after : FixedChoice)
+Picked-given : (a : Asked) (choice : Choice) (before after : FixedChoice)
     → Picked gives_pick gives_value a choice before after → choice ≡ given_choice before.step a
-chosen Unasked choice before after picked = picked.0
-chosen ValueAsked choice before after picked = picked.1 ∙ ap (λ (n : ℕ). (triggering n).choice) picked.2.0
-chosen PickAsked choice before after picked = picked.1 ∙ ap choice_by picked.2.0
+Picked-given Unasked choice before after picked = picked.0
+Picked-given ValueAsked choice before after picked = picked.1 ∙ ap (λ (n : ℕ). (triggering n).choice) picked.2.0
+Picked-given PickAsked choice before after picked = picked.1 ∙ ap choice_by picked.2.0
 
 abbrev sure_supply : SureSourceState → Supply
 sure_supply s = record { left = Some s.left; replies = s.replies }
 
-abbrev sure : SureSourceState → SureSourceState → Drawn
-sure a b = record { old = sure_supply a; new = sure_supply b; before = 0; now = 0 }
+abbrev sure_input : SureSourceState → SureSourceState → Drawn
+sure_input a b = record { old = sure_supply a; new = sure_supply b; before = 0; now = 0 }
 
-abbrev null : SinkChange
-null = record { old = None; new = None; before = 0; now = 0 }
+abbrev silent_sink : SinkChange
+silent_sink = record { old = None; new = None; before = 0; now = 0 }
 
 pub moved_by : (event : Event) (m : Move) (old new : ImpreciseState)
     (before after : FixedChoice) (a b : SureSourceState)
     → before.step ≡ m
-    → StepMadeByChoice gives_pick gives_value event old new before after (sure a b) null
+    → StepMadeByChoice gives_pick gives_value event old new before after (sure_input a b) silent_sink
     → Moved m event old new a.left b.left
 moved_by event m old new before after a b same made =
     let did = made.effect in
     let given =
-    chosen (asked old) made.choice before after made.picked ∙ ap (λ (x : Move). given_choice x (asked old)) same in
+    Picked-given (asked old) made.choice before after made.picked
+    ∙ ap (λ (x : Move). given_choice x (asked old)) same in
     let fed = did.fed.told a.left refl in
     record {
       label = did.label;
@@ -55,11 +56,11 @@ moved_by event m old new before after a b same made =
     }
 
 -- no device fails
-never : (fault : Fault) (a b : SureSourceState) → Causes fault (sure a b) null null → ⊥
-never Input a b cause = absurd (let rose = cause.source in omega arith)
-never Output a b cause = absurd (let rose = cause.sink in omega arith)
-never Notes a b cause = absurd (let rose = cause.lines in omega arith)
+Causes-never : (fault : Fault) (a b : SureSourceState) → Causes fault (sure_input a b) silent_sink silent_sink → ⊥
+Causes-never Input a b cause = absurd (let rose = cause.source in omega arith)
+Causes-never Output a b cause = absurd (let rose = cause.sink in omega arith)
+Causes-never Notes a b cause = absurd (let rose = cause.lines in omega arith)
 
 pub never_breaks : (fault : Fault) (old new : ImpreciseState) (before after : FixedChoice) (a b : SureSourceState)
-    → StepFaultedByChoice gives_pick gives_value fault old new before after (sure a b) null → ⊥
-never_breaks fault old new before after a b broken = never fault a b (broken.effect.cause null refl)
+    → StepFaultedByChoice gives_pick gives_value fault old new before after (sure_input a b) silent_sink → ⊥
+never_breaks fault old new before after a b broken = Causes-never fault a b (broken.effect.cause silent_sink refl)

@@ -94,9 +94,9 @@ pub record MoveFits (g : Program) (o : Option Class) (s : State) (t : Option Tra
       × ((input : List ℕ) → imprecise_step_at g o s t (choice_of m) input ≡ imprecise_step_at g o s t c input)
   pub other : (was ≡ m → ⊥) → move_applies o s t n m ≡ false
 
-never : (a : Bool) → (a && false) ≡ false
-never true = refl
-never false = refl
+and-false : (a : Bool) → (a && false) ≡ false
+and-false true = refl
+and-false false = refl
 
 adds_not : (a b : Bool) → a ≡ b → (c : Bool) → (a ≡ true → ⊥) → (a && c) ≡ false
 adds_not a true e c apart = absurd (apart e)
@@ -109,7 +109,7 @@ module _ (g : Program) (o : Option Class) (s : State) where
   trips_fit n One e = record { same = λ is. absurd cc; other = λ no. ap (λ (b : Bool). not b) e }
   trips_fit n (Trips value) e = record { same = λ is. (e, λ input. refl); other = λ no. absurd (no refl) }
   trips_fit n (Waits adds value) e =
-      record { same = λ is. absurd cc; other = λ no. never (may_add o (Waits adds value)) }
+      record { same = λ is. absurd cc; other = λ no. and-false (may_add o (Waits adds value)) }
   trips_fit n Reports e = record { same = λ is. absurd cc; other = λ no. refl }
 
   -- with nothing pending, it didn't
@@ -117,7 +117,7 @@ module _ (g : Program) (o : Option Class) (s : State) where
   one_fits n One e = record { same = λ is. (ap (λ (b : Bool). not b) e, λ input. refl); other = λ no. absurd (no refl) }
   one_fits n (Trips value) e = record { same = λ is. absurd cc; other = λ no. e }
   one_fits n (Waits adds value) e =
-      record { same = λ is. absurd cc; other = λ no. never (may_add o (Waits adds value)) }
+      record { same = λ is. absurd cc; other = λ no. and-false (may_add o (Waits adds value)) }
   one_fits n Reports e = record { same = λ is. absurd cc; other = λ no. refl }
 
   -- a report that had to be
@@ -127,7 +127,7 @@ module _ (g : Program) (o : Option Class) (s : State) where
   forced_fits t n (Trips value) e = record { same = λ is. absurd cc; other = λ no. refl }
   forced_fits t n (Waits adds value) e = record {
     same = λ is. absurd cc;
-    other = λ no. ap (λ (b : Bool). may_add o (Waits adds value) && not b) e ∙ never (may_add o (Waits adds value));
+    other = λ no. ap (λ (b : Bool). may_add o (Waits adds value) && not b) e ∙ and-false (may_add o (Waits adds value));
   }
   forced_fits t n Reports e = record { same = λ is. (refl, λ input. refl); other = λ no. absurd (no refl) }
 

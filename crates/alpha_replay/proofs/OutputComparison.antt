@@ -32,8 +32,8 @@ pub record SamePrefix (bytes expected : List ℕ) (n : ℕ) : Type 0 where
   pub is : (k : ℕ) (more : List ℕ)
       → first_difference k (bytes ++ more) expected ≡ first_difference (k + n) (drop n bytes ++ more) (drop n expected)
 
-abbrev going : (expected : List ℕ) (at : ℕ) (b : Bool) (l : List ℕ) → Option ℕ
-going expected at b l = cond b (Some at) (first_difference at l (drop at expected))
+abbrev difference_from : (expected : List ℕ) (at : ℕ) (b : Bool) (l : List ℕ) → Option ℕ
+difference_from expected at b l = cond b (Some at) (first_difference at l (drop at expected))
 
 pub sees_prefix : (expected : List ℕ) (s : Compared) (output bytes : List ℕ) (n : ℕ) (b : Bool) → s.differs ≡ false
     → ((k : ℕ) (more : List ℕ)
@@ -47,12 +47,12 @@ pub sees_prefix : (expected : List ℕ) (s : Compared) (output bytes : List ℕ)
 sees_prefix expected s output bytes n b same front most other shorter whole before = λ more.
     ap (λ (l : List ℕ). first_difference 0 l expected) (append_assoc output bytes more)
     ∙ (before (bytes ++ more)
-    ∙ (ap (λ (d : Bool). going expected s.at d (bytes ++ more)) same
+    ∙ (ap (λ (d : Bool). difference_from expected s.at d (bytes ++ more)) same
     ∙ (front s.at more ∙ by b refl more)))
   where
     by : (d : Bool) → b ≡ d → (more : List ℕ)
         → first_difference (s.at + n) (drop n bytes ++ more) (drop n (drop s.at expected))
-        ≡ going expected (s.at + n) d more
+        ≡ difference_from expected (s.at + n) d more
     by true e more = other (shorter e) (s.at + n) more
     by false e more =
         ap (λ (l : List ℕ). first_difference (s.at + n) (l ++ more) (drop n (drop s.at expected)))
@@ -61,22 +61,24 @@ sees_prefix expected s output bytes n b same front most other shorter whole befo
 
 -- ---- where an output differs that has ended
 
-ended : (at : ℕ) (rest : List ℕ) → 0 < length rest → first_difference at [] rest ≡ Some at
-ended at [] some = absurd (omega arith)
-ended at (y ∷ ys) some = refl
+first_difference-too_short : (at : ℕ) (rest : List ℕ) → 0 < length rest → first_difference at [] rest ≡ Some at
+first_difference-too_short at [] some = absurd (omega arith)
+first_difference-too_short at (y ∷ ys) some = refl
 
 pub difference_sure : (expected : List ℕ) (s : Compared) (output : List ℕ) → s.differs ≡ true → Sees expected s output
     → first_difference 0 output expected ≡ Some s.at
 difference_sure expected s output differs before =
     ap (λ (l : List ℕ). first_difference 0 l expected) (sym (append-nil output))
-    ∙ (before [] ∙ ap (λ (b : Bool). going expected s.at b []) differs)
+    ∙ (before [] ∙ ap (λ (b : Bool). difference_from expected s.at b []) differs)
 
 pub difference_short : (expected : List ℕ) (s : Compared) (output : List ℕ) → s.differs ≡ false
     → 0 < length (drop s.at expected) → Sees expected s output
     → first_difference 0 output expected ≡ Some s.at
 difference_short expected s output differs some before =
     ap (λ (l : List ℕ). first_difference 0 l expected) (sym (append-nil output))
-    ∙ (before [] ∙ (ap (λ (b : Bool). going expected s.at b []) differs ∙ ended s.at (drop s.at expected) some))
+    ∙ (before []
+    ∙ (ap (λ (b : Bool). difference_from expected s.at b []) differs
+    ∙ first_difference-too_short s.at (drop s.at expected) some))
 
 pub difference_none : (expected : List ℕ) (s : Compared) (output : List ℕ) → s.differs ≡ false → length expected ≤ s.at
     → Sees expected s output
@@ -84,7 +86,7 @@ pub difference_none : (expected : List ℕ) (s : Compared) (output : List ℕ) �
 difference_none expected s output differs all before =
     ap (λ (l : List ℕ). first_difference 0 l expected) (sym (append-nil output))
     ∙ (before []
-    ∙ (ap (λ (b : Bool). going expected s.at b []) differs
+    ∙ (ap (λ (b : Bool). difference_from expected s.at b []) differs
     ∙ ap (λ (l : List ℕ). first_difference s.at [] l) (drop_of_length-le expected all)))
 
 -- ---- the loop

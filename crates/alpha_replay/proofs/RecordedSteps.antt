@@ -16,9 +16,9 @@ use Rattle.alpha_imprecise.specs.StepResult.{ImpreciseEvent, Precisely, Triggere
 use Rattle.alpha_imprecise.specs.Run.{seen_of, seen, finished, next_step_result, RunsImprecisely, unit_of, units}
 use Rattle.alpha_imprecise.specs.ImpreciseState.{ImpreciseState, trap_in, step_result_of}
 use Rattle.alpha_imprecise.specs.ImpreciseStepEffect.{shown_as, ImpreciseStep}
-use Rattle.alpha_imprecise.proofs.Sequence.{seen_steps-append}
+use Rattle.alpha_imprecise.proofs.ImpreciseSequence.{seen_steps-append}
 use Rattle.alpha_run.specs.Row.{Row, AreGoing, units_of}
-use Rattle.alpha_run.proofs.Rows.{output-append}
+use Rattle.alpha_run.proofs.StepRows.{output-append}
 use Rattle.alpha_run.proofs.ImpreciseRuns.{finished-is_over, step_is, steps_of}
 use Rattle.alpha_replay.specs.Events.{move_of, move_by, took_by, put_by}
 use Rattle.alpha_replay.specs.GatheredItems.{GatheredItems, no_moves, gathered_by, gathered_from}

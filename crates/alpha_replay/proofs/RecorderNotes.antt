@@ -90,8 +90,8 @@ lines_same r (p ∷ ps) =
 
 -- ---- room for steps that only go on
 
-fits : (a b c d : ℕ) → a ≤ b → c ≤ d → (leb a b && leb c d) ≡ true
-fits a b c d p q = rw (le-leb a b p, le-leb c d q) refl
+leb-both : (a b c d : ℕ) → a ≤ b → c ≤ d → (leb a b && leb c d) ≡ true
+leb-both a b c d p q = rw (le-leb a b p, le-leb c d q) refl
 
 closed-most : (items : List Item) (ones : ℕ) → length items ≤ most_items → (0 < ones → length items + 1 ≤ most_items)
     → length (closed_by items ones) ≤ most_items
@@ -113,7 +113,7 @@ ones_room k most room open_still few n low =
     let all = units-closed k.items k.ones in
     let more = units-closed k.items (k.ones + n) in
     let less = items-most k.items k.ones parts.0 in
-    fits (length (closed_by k.items (k.ones + n))) most_items (units_of (closed_by k.items (k.ones + n))) most_units
+    leb-both (length (closed_by k.items (k.ones + n))) most_items (units_of (closed_by k.items (k.ones + n))) most_units
     (closed-most k.items (k.ones + n) less (λ some. by k.ones refl some)) (omega (arith, all, more))
   where
     by : (ones : ℕ) → k.ones ≡ ones → 0 < ones + n → length k.items + 1 ≤ most_items

@@ -39,9 +39,9 @@ CursorAt-start s pending input = record {
   waited = waited_in pending;
 }
 
-begun : (g : Program) (w : ImpreciseState) (input : List ℕ) → Begins g w
+played_at-begun : (g : Program) (w : ImpreciseState) (input : List ℕ) → Begins g w
     → played_at (place w input first_cursor) (Precisely Went) [] 0 ≡ unplayed (start g) input
-begun g w input h =
+played_at-begun g w input h =
     ap (λ (p : Option Pending). CursorAt-start (state_of w.machine) p input) h.fresh.nothing_pending
     ∙ (ap (λ (s : State). CursorAt-start s None input) h.fresh.start
     ∙ ap (λ (f : Program). CursorAt-start (start f) None input) h.program)
@@ -70,7 +70,7 @@ CursorAt-by g w input items expected b h plays =
       last = x.0;
       last_is = x.1;
       is =
-          ap (λ (p : Played). listed_from g 0 items p) (sym (begun g w input h))
+          ap (λ (p : Played). listed_from g 0 items p) (sym (played_at-begun g w input h))
           ∙ (ap (λ (f : Program). listed_from f 0 items (played_at (place w input first_cursor) (Precisely Went) [] 0))
           (sym h.program)
           ∙ (x.2
@@ -79,10 +79,10 @@ CursorAt-by g w input items expected b h plays =
       sees = plays.sees [] (λ more. refl);
     }
 
-pub stops_by : (g : Program) (w : ImpreciseState) (input : List ℕ) (items : List Item) (n : ℕ) → Begins g w
+pub listed-StopsAt : (g : Program) (w : ImpreciseState) (input : List ℕ) (items : List Item) (n : ℕ) → Begins g w
     → StopsAt items n (place w input first_cursor) → listed g input items ≡ Err n
-stops_by g w input items n h stops =
-    ap (λ (p : Played). listed_from g 0 items p) (sym (begun g w input h))
+listed-StopsAt g w input items n h stops =
+    ap (λ (p : Played). listed_from g 0 items p) (sym (played_at-begun g w input h))
     ∙ (ap (λ (f : Program). listed_from f 0 items (played_at (place w input first_cursor) (Precisely Went) [] 0))
     (sym h.program)
     ∙ stops (Precisely Went) first_last [] 0)
@@ -93,8 +93,8 @@ pub item_fault : (image : Image) (p : Parts) (n : ℕ) → listed (program_by im
     → Err (faults.Item n) ≡ replayed image p
 item_fault image p n e = sym (ap (answered p) e)
 
-abbrev tests : Option ℕ → Bool → ℕ → Option ReplayFault
-tests at ends left =
+abbrev end_fault_of : Option ℕ → Bool → ℕ → Option ReplayFault
+end_fault_of at ends left =
     first_of (option_map faults.Output at ∷ unless ends faults.End ∷ unless (eqb left 0) (faults.Input left) ∷ [])
 
 module _ (image : Image) (p : Parts) (b : Place) (h : CursorAt (program_by image p) p.input p.items p.output b) where
@@ -118,29 +118,32 @@ module _ (image : Image) (p : Parts) (b : Place) (h : CursorAt (program_by image
   abbrev counts : Replayed
   counts = record { units = h.units; reports = reports_of p.items }
 
-  answer_is : (fault : Option ReplayFault) → tests (first_difference 0 bytes p.output) at_end (length b.input) ≡ fault
+  answer_is : (fault : Option ReplayFault)
+      → end_fault_of (first_difference 0 bytes p.output) at_end (length b.input) ≡ fault
       → answer_by fault counts ≡ replayed image p
   answer_is fault e =
       sym (ap (answered p) h.is
       ∙ ap (λ (o : Option ReplayFault). answer_by o counts)
-      (ap (λ (x : Bool). tests (first_difference 0 bytes p.output) x (length b.input)) same_end ∙ e))
+      (ap (λ (x : Bool). end_fault_of (first_difference 0 bytes p.output) x (length b.input)) same_end ∙ e))
 
   pub output_fault : (at : ℕ) → first_difference 0 (output (seen h.steps)) p.output ≡ Some at
       → Err (faults.Output at) ≡ replayed image p
-  output_fault at e = answer_is (Some (faults.Output at)) (ap (λ (o : Option ℕ). tests o at_end (length b.input)) e)
+  output_fault at e =
+      answer_is (Some (faults.Output at)) (ap (λ (o : Option ℕ). end_fault_of o at_end (length b.input)) e)
 
   pub end_fault : first_difference 0 (output (seen h.steps)) p.output ≡ None → at_end ≡ false
       → Err faults.End ≡ replayed image p
   end_fault e f =
       answer_is (Some faults.End)
-      (ap (λ (o : Option ℕ). tests o at_end (length b.input)) e ∙ ap (λ (c : Bool). tests None c (length b.input)) f)
+      (ap (λ (o : Option ℕ). end_fault_of o at_end (length b.input)) e
+      ∙ ap (λ (c : Bool). end_fault_of None c (length b.input)) f)
 
   pub input_fault : first_difference 0 (output (seen h.steps)) p.output ≡ None → at_end ≡ true
       → eqb (length b.input) 0 ≡ false → Err (faults.Input (length b.input)) ≡ replayed image p
   input_fault e f l =
       answer_is (Some (faults.Input (length b.input)))
-      (ap (λ (o : Option ℕ). tests o at_end (length b.input)) e
-      ∙ (ap (λ (c : Bool). tests None c (length b.input)) f
+      (ap (λ (o : Option ℕ). end_fault_of o at_end (length b.input)) e
+      ∙ (ap (λ (c : Bool). end_fault_of None c (length b.input)) f
       ∙ ap (λ (c : Bool). first_of (None ∷ None ∷ unless c (faults.Input (length b.input)) ∷ [])) l))
 
   pub no_fault : first_difference 0 (output (seen h.steps)) p.output ≡ None → at_end ≡ true
@@ -150,8 +153,8 @@ module _ (image : Image) (p : Parts) (b : Place) (h : CursorAt (program_by image
       ap (λ (k : ℕ). Ok (record { units = k; reports = reports_of p.items }))
       (sym (listed_units (program_by image p) p.input p.items here h.is))
       ∙ answer_is None
-      (ap (λ (o : Option ℕ). tests o at_end (length b.input)) e
-      ∙ (ap (λ (c : Bool). tests None c (length b.input)) f
+      (ap (λ (o : Option ℕ). end_fault_of o at_end (length b.input)) e
+      ∙ (ap (λ (c : Bool). end_fault_of None c (length b.input)) f
       ∙ ap (λ (c : Bool). first_of (None ∷ None ∷ unless c (faults.Input (length b.input)) ∷ [])) l))
 
 -- ---- the bytes that are left

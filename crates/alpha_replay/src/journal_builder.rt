@@ -64,8 +64,8 @@ impl JournalBuilder {
         ensures value { result ≡ builder_fits (built_by self.old event.now machine.now) }
         ensures state { self.new ≡ builder_after self.old event.now machine.now }
     {
-        let taken = self.take(bytes_taken(event, machine));
-        let put = self.put(bytes_put(event, machine));
+        let taken = self.push_input(bytes_taken(event, machine));
+        let put = self.push_output(bytes_put(event, machine));
         let noted = self.note(Move::of(event));
         taken && put && noted
     }
@@ -73,7 +73,7 @@ impl JournalBuilder {
     // Notes bytes that were taken, and answers whether it did. Where that would be too many it notes
     // none of them.
     #[inline(always)]
-    fn take(&mut self, bytes: &[u8]) -> bool
+    fn push_input(&mut self, bytes: &[u8]) -> bool
         ensures value { result ≡ nat_le (length (self.old.taken ++ bytes.now)) most_bytes }
         ensures state { self.new ≡ record self.old { taken = bytes_kept self.old.taken bytes.now } }
     {
@@ -86,7 +86,7 @@ impl JournalBuilder {
     // Notes bytes that were put, and answers whether it did. Where that would be too many it notes none
     // of them.
     #[inline(always)]
-    fn put(&mut self, bytes: &[u8]) -> bool
+    fn push_output(&mut self, bytes: &[u8]) -> bool
         ensures value { result ≡ nat_le (length (self.old.put ++ bytes.now)) most_bytes }
         ensures state { self.new ≡ record self.old { put = bytes_kept self.old.put bytes.now } }
     {

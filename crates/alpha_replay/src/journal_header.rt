@@ -37,7 +37,7 @@ pub(crate) struct JournalHeader {
 impl JournalHeader {
     /// The front of bytes whose input and output are whole.
     #[tactic(auto, unfolding(crate::specs::JournalFault::header_fault))]
-    pub fn checked(bytes: &[u8]) -> Result<JournalHeader, JournalFault>
+    pub fn parse(bytes: &[u8]) -> Result<JournalHeader, JournalFault>
         ensures fault { Tells result (header_fault bytes.now) }
         ensures memory { IfErr result (λ e. e ≢ JournalFault.NoMemory) }
         ensures numbers { IfOk result (λ f. header_numbers f ≡ numbers_in bytes.now) }

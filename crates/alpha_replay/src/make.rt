@@ -65,7 +65,7 @@ pub fn make_journal<C: Chooser, S: Source, K: Sink, N: Sink>(
         builder: tape,
         full: false,
     };
-    match run_recorded(&mut recorder, wild, chooser, input, out, notes, units) {
+    match run_and_record(&mut recorder, wild, chooser, input, out, notes, units) {
         Ok(last) => outcome(recorder, completion, last),
         Err(fault) => JournalEnd::Failed(fault),
     }
@@ -75,7 +75,7 @@ pub fn make_journal<C: Chooser, S: Source, K: Sink, N: Sink>(
 // loop
 // of the run is compiled by itself.
 #[inline(never)]
-fn run_recorded<C: Chooser, S: Source, K: Sink, N: Sink>(
+fn run_and_record<C: Chooser, S: Source, K: Sink, N: Sink>(
     recorder: &mut Recorder,
     wild: &mut Wild,
     chooser: &mut C,

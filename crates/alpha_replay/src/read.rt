@@ -47,7 +47,7 @@ pub fn read_journal(alloc: Global, bytes: &[u8]) -> Result<Journal, JournalFault
     ensures spelled { IfOk result (λ journal. bytes.now ≡ spelling journal) }
     ensures fault { Tells result (first_fault bytes.now) }
 {
-    let front = JournalHeader::checked(bytes)?;
+    let front = JournalHeader::parse(bytes)?;
     check_items(&front, bytes)?;
     let (input, behind) = bytes[FRONT_BYTES..].split_at(front.input as usize);
     let (output, items) = behind.split_at(front.output as usize);

@@ -141,7 +141,7 @@ fn reports_of(items: &[Item]) -> u64
 }
 
 // The machine at the start of the image's program.
-fn fresh(alloc: Global, image: Image, completion: Completion) -> Result<Wild, ReplayFault>
+fn machine_at_start(alloc: Global, image: Image, completion: Completion) -> Result<Wild, ReplayFault>
     ensures fresh { IfOk result IsFresh }
     ensures program { IfOk result (λ wild. program_of wild.machine
         ≡ record { image = image; completion = completion }) }
@@ -205,7 +205,7 @@ pub fn replay(alloc: Global, image: Image, journal: &Journal) -> Result<Replayed
         return Err(ReplayFault::NoMemory);
     };
     let mut input = SureSource::new(input);
-    match fresh(alloc, image, journal.completion()) {
+    match machine_at_start(alloc, image, journal.completion()) {
         Ok(mut wild) => play_all(
             &mut wild,
             &mut input,

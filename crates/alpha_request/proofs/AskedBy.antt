@@ -24,27 +24,27 @@ use Rattle.alpha_request.proofs.ClapAnswers.{asked-named}
 
 -- ---- a command that matches make has their name
 
-IsOf : Name → Option Command → Type 0
-IsOf n o = (c : Command) → o ≡ Some c → name_in c ≡ n
+IsCommandOf : Name → Option Command → Type 0
+IsCommandOf n o = (c : Command) → o ≡ Some c → name_in c ≡ n
 
 map_of : {A : Type 0} (f : A → Command) (n : Name) → ((x : A) → name_in (f x) ≡ n) → (o : Option A)
-    → IsOf n (option_map f o)
-unfolding IsOf
+    → IsCommandOf n (option_map f o)
+unfolding IsCommandOf
 map_of f n same None = λ c e. cc
 map_of f n same (Some x) = λ c e. let s : f x ≡ c = cc in subst (λ m. name_in m ≡ n) s (same x)
 
-then_of : {A : Type 0} (f : A → Option Command) (n : Name) → ((x : A) → IsOf n (f x)) → (o : Option A)
-    → IsOf n (option_and_then f o)
-unfolding IsOf
+then_of : {A : Type 0} (f : A → Option Command) (n : Name) → ((x : A) → IsCommandOf n (f x)) → (o : Option A)
+    → IsCommandOf n (option_and_then f o)
+unfolding IsCommandOf
 then_of f n same None = λ c e. cc
 then_of f n same (Some x) = same x
 
-none_of : (n : Name) → IsOf n None
-unfolding IsOf
+none_of : (n : Name) → IsCommandOf n None
+unfolding IsCommandOf
 none_of n = λ c e. cc
 
 run_of : (late chosen : Bool) (rows : List Row)
-    → IsOf names.Run (if late then imprecise_in rows else if chosen then None else plain_in rows)
+    → IsCommandOf names.Run (if late then imprecise_in rows else if chosen then None else plain_in rows)
 run_of true chosen rows =
     then_of _ names.Run
     (λ options. then_of _ names.Run
@@ -57,7 +57,7 @@ run_of false false rows =
     then_of (λ options. option_map (run options) (first_of (codes "file") rows)) names.Run
     (λ options. map_of (run options) names.Run (λ file. refl) (first_of (codes "file") rows)) (options_in rows)
 
-made_of : (n : Name) (rows : List Row) → IsOf n (command_in n rows)
+made_of : (n : Name) (rows : List Row) → IsCommandOf n (command_in n rows)
 made_of (names.OfImage what) rows =
     map_of (of_image what) (names.OfImage what) (λ file. refl) (first_of (codes "file") rows)
 made_of (names.Make what) rows =
@@ -85,25 +85,27 @@ made_of names.Trial rows = map_of trial names.Trial (λ n. refl) (blocks_in rows
 
 -- ---- the name that a word is
 
-step : (word : Text) (m n : Name) (rest : Option Name) (b : Bool) → bytes_eq word (word_of m) ≡ b
+word_of-next_row : (word : Text) (m n : Name) (rest : Option Name) (b : Bool) → bytes_eq word (word_of m) ≡ b
     → (rest ≡ Some n → word ≡ word_of n)
     → cond b (Some m) rest ≡ Some n → word ≡ word_of n
-step word m n rest true is k e = let same : m ≡ n = cc in (bytes_eq-Decides word (word_of m)).0 is ∙ ap word_of same
-step word m n rest false is k e = k e
+word_of-next_row word m n rest true is k e =
+    let same : m ≡ n = cc in
+    (bytes_eq-Decides word (word_of m)).0 is ∙ ap word_of same
+word_of-next_row word m n rest false is k e = k e
 
 named_text : (word : Text) (n : Name) → name_of word ≡ Some n → word ≡ word_of n
 named_text word n =
-    step word (names.OfImage images.Check) n _ (bytes_eq word (codes "check")) refl
-    (step word (names.OfImage images.Dis) n _ (bytes_eq word (codes "dis")) refl
-    (step word (names.Make sources.Asm) n _ (bytes_eq word (codes "asm")) refl
-    (step word (names.Make sources.Fix) n _ (bytes_eq word (codes "fix")) refl
-    (step word (names.Make sources.Module) n _ (bytes_eq word (codes "module")) refl
-    (step word names.Link n _ (bytes_eq word (codes "link")) refl
-    (step word names.Replay n _ (bytes_eq word (codes "replay")) refl
-    (step word names.Record n _ (bytes_eq word (codes "record")) refl
-    (step word names.Run n _ (bytes_eq word (codes "run")) refl
-    (step word (names.OfImage images.Debug) n _ (bytes_eq word (codes "debug")) refl
-    (step word names.Trial n _ (bytes_eq word (codes "trial")) refl
+    word_of-next_row word (names.OfImage images.Check) n _ (bytes_eq word (codes "check")) refl
+    (word_of-next_row word (names.OfImage images.Dis) n _ (bytes_eq word (codes "dis")) refl
+    (word_of-next_row word (names.Make sources.Asm) n _ (bytes_eq word (codes "asm")) refl
+    (word_of-next_row word (names.Make sources.Fix) n _ (bytes_eq word (codes "fix")) refl
+    (word_of-next_row word (names.Make sources.Module) n _ (bytes_eq word (codes "module")) refl
+    (word_of-next_row word names.Link n _ (bytes_eq word (codes "link")) refl
+    (word_of-next_row word names.Replay n _ (bytes_eq word (codes "replay")) refl
+    (word_of-next_row word names.Record n _ (bytes_eq word (codes "record")) refl
+    (word_of-next_row word names.Run n _ (bytes_eq word (codes "run")) refl
+    (word_of-next_row word (names.OfImage images.Debug) n _ (bytes_eq word (codes "debug")) refl
+    (word_of-next_row word names.Trial n _ (bytes_eq word (codes "trial")) refl
     (λ e. cc)))))))))))
 
 text_named : (n : Name) → name_of (word_of n) ≡ Some n
@@ -119,13 +121,13 @@ AskedBy words c = AsksBy (word_of (name_in c)) (spoken (name_in c)) c words
 by_rows : (words rest : List Text) (word : Text) (n : Name) (c : Command) (rows : Option (List Row))
     → words ≡ word ∷ rest → word ≡ word_of n
     → matches_on (app_of_name n) words ≡ rows → option_and_then (command_in n) rows ≡ Some c → AskedBy words c
-unfolding AskedBy IsOf
+unfolding AskedBy IsCommandOf
 by_rows words rest word n c None first named is e = cc
 by_rows words rest word n c (Some rows) first named is e =
     subst (λ m. AsksBy (word_of m) (spoken m) c words) (sym (of c e))
     (record { rest = rest; named = first ∙ ap (λ x. x ∷ rest) named; rows = rows; matches = is; makes = e })
   where
-    of : IsOf n (command_in n rows)
+    of : IsCommandOf n (command_in n rows)
     of = made_of n rows
 
 by_name : (rest : List Text) (word : Text) (c : Command) (o : Option Name) → name_of word ≡ o

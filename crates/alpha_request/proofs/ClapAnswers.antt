@@ -29,17 +29,18 @@ unfolding clap_on_literals
 simple_and_free (names.OfImage what) = refl
 simple_and_free name = refl
 
-simple : (name : Name) → is_simple (app_of_name name) ≡ true
-simple name =
+is_simple-app : (name : Name) → is_simple (app_of_name name) ≡ true
+is_simple-app name =
     (and_parts (is_simple (app_of_name name)) (is_free_app (built (app_of_name name))) (simple_and_free name)).0
 
-chosen : (kinds : Kinds) (rows : List Row) → kinds ≡ [] → unless_faulty kinds rows ≡ Some rows
-chosen [] rows none = refl
-chosen (k ∷ ks) rows none = cc
+unless_faulty-none : (kinds : Kinds) (rows : List Row) → kinds ≡ [] → unless_faulty kinds rows ≡ Some rows
+unless_faulty-none [] rows none = refl
+unless_faulty-none (k ∷ ks) rows none = cc
 
-refused : (kinds : Kinds) (rows : List Row) (k : ErrorKind) → IsAmong k kinds → unless_faulty kinds rows ≡ None
-refused [] rows k among = absurd among
-refused (x ∷ xs) rows k among = refl
+unless_faulty-some : (kinds : Kinds) (rows : List Row) (k : ErrorKind) → IsAmong k kinds
+    → unless_faulty kinds rows ≡ None
+unless_faulty-some [] rows k among = absurd among
+unless_faulty-some (x ∷ xs) rows k among = refl
 
 -- where clap finds no fault, its matches are those of the definition
 pub matches_on-found : (own : App) (name : Name) (words : List Text) (m : ArgMatches) → own ≡ app_of_name name
@@ -51,15 +52,15 @@ matches_on-found own name words m same none has =
     let clean : fault_of app words ≡ [] =
     ap (λ a. fault_of a words) (sym same) ∙ none (ap is_simple_and_free same ∙ simple_and_free name) in
     let rows : rows_of (found_of m) ≡ matches_of app words =
-    (has (ap is_simple same ∙ simple name)).0 ∙ ap (λ a. matches_of a words) same in
-    chosen (fault_of app words) (matches_of app words) clean ∙ ap Some (sym rows)
+    (has (ap is_simple same ∙ is_simple-app name)).0 ∙ ap (λ a. matches_of a words) same in
+    unless_faulty-none (fault_of app words) (matches_of app words) clean ∙ ap Some (sym rows)
 
 none_on : (app : App) (words : List Text) (e : Error) → (kind_of e ≡ kind.OutOfMemory → ⊥)
     → HasKind (fault_of app words) e → matches_on app words ≡ None
 unfolding matches_on
 none_on app words e other has =
     ⊎_elim (λ (m : kind_of e ≡ kind.OutOfMemory). absurd (other m))
-    (λ among. refused (fault_of app words) (matches_of app words) (kind_of e) among) has
+    (λ among. unless_faulty-some (fault_of app words) (matches_of app words) (kind_of e) among) has
 
 -- where it answers an error but for want of memory, there are none
 pub matches_on-refused : (own : App) (name : Name) (words : List Text) (e : Error) (refusal : Refusal)

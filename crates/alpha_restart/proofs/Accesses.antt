@@ -15,8 +15,8 @@ use Rattle.alpha_mem.specs.Fault.{fault_of}
 use Rattle.alpha_mem.specs.Memory.{byte_at, bytes_at, write_bytes, IsLayout}
 use Rattle.alpha_mem.proofs.LawLemmas as mem
 use Rattle.alpha_restart.specs.Match.{Reached, DeadByte, SameBytes, intent_of}
-use Rattle.alpha_restart.proofs.Words.{access-IsNarrow}
-use Rattle.alpha_restart.proofs.Bytes.{dead_byte_on, reached_on}
+use Rattle.alpha_restart.proofs.CodeWordBounds.{access-IsNarrow}
+use Rattle.alpha_restart.proofs.BytesAlike.{dead_byte_on, reached_on}
 
 module _ (code : List ℕ) (q e : ℕ) (regs : List ℕ) (m n : List Block) (c : MemAccess) (h : SameBytes code q e regs m n)
     (less : q < e) (accesses : access (class_at code q) ≡ Some c) where

@@ -11,18 +11,18 @@ use Rattle.alpha_seq.specs.State.{Program, State, Event, Barriered, Ends, Steppe
 use Rattle.alpha_seq.specs.Start.{start}
 use Rattle.alpha_seq.specs.Step.{step_from}
 use Rattle.alpha_seq.specs.Run.{begins, Runs, is_over}
-use Rattle.alpha_seq.proofs.Sequence.{Runs-append, Runs-one_more}
+use Rattle.alpha_seq.proofs.RunSequence.{Runs-append, Runs-one_more}
 use Rattle.alpha_trap.specs.Scan.{scan}
 use Rattle.alpha_imprecise.specs.StepResult.{Trap, ImpreciseEvent, Precisely, Lost, StepResult}
 use Rattle.alpha_imprecise.specs.Step.{imprecise_step}
 use Rattle.alpha_imprecise.specs.Run.{seen_of, seen, finished, choice_of, given_to, imprecise_start, next_step_result}
 use Rattle.alpha_imprecise.specs.Run.{RunsImprecisely}
 use Rattle.alpha_imprecise.specs.Restart.{Follows, Agrees, RestartsFrom, IsRestartable}
-use Rattle.alpha_imprecise.proofs.Sequence.{seen_steps-append}
+use Rattle.alpha_imprecise.proofs.ImpreciseSequence.{seen_steps-append}
 use Rattle.alpha_restart.specs.Safe.{IsSafe}
 use Rattle.alpha_restart.specs.Invariant.{IsReady, Trail, Together, exact, synced, window, stopping, stopped}
 use Rattle.alpha_restart.proofs.Safety.{safe}
-use Rattle.alpha_restart.proofs.Places.{trail_scan}
+use Rattle.alpha_restart.proofs.ImagePlaces.{trail_scan}
 use Rattle.alpha_restart.proofs.StartState.{ready_start}
 use Rattle.alpha_restart.proofs.Together.{from_same}
 use Rattle.alpha_restart.proofs.Resynchronization.{from_synced}
@@ -39,14 +39,14 @@ record Followed (g : Program) (s : State) (hs : List ImpreciseEvent) (w : StepRe
   some : (t : Trap) → w.pending ≡ Some t → events ≡ seen hs ++ last.event ∷ []
 
 -- what was seen of the last step: the precise machine's last event, or nothing while a trap is pending
-shown : (g : Program) (r : Stepped) (w : StepResult) → Together g r w
+Together-seen : (g : Program) (r : Stepped) (w : StepResult) → Together g r w
     → (w.pending ≡ None → seen_of w.last_event ≡ r.event ∷ [])
     × ((t : Trap) → w.pending ≡ Some t → seen_of w.last_event ≡ [])
-shown g r w (exact x) = (λ none. ap seen_of x.last, λ t some. let k = sym x.pending ∙ some in cc)
-shown g r w (synced x) = (λ none. x.shows, λ t some. let k = sym x.pending ∙ some in cc)
-shown g r w (window x) = (λ none. (let k = sym x.trail.pending ∙ none in cc), λ t some. x.trail.silent)
-shown g r w (stopping x) = (λ none. (let k = sym x.trail.pending ∙ none in cc), λ t some. x.trail.silent)
-shown g r w (stopped x) = (
+Together-seen g r w (exact x) = (λ none. ap seen_of x.last, λ t some. let k = sym x.pending ∙ some in cc)
+Together-seen g r w (synced x) = (λ none. x.shows, λ t some. let k = sym x.pending ∙ some in cc)
+Together-seen g r w (window x) = (λ none. (let k = sym x.trail.pending ∙ none in cc), λ t some. x.trail.silent)
+Together-seen g r w (stopping x) = (λ none. (let k = sym x.trail.pending ∙ none in cc), λ t some. x.trail.silent)
+Together-seen g r w (stopped x) = (
   λ none. ap seen_of x.last_too ∙ ap (λ (e : Event). e ∷ []) (sym x.last),
   λ t some. let k = sym x.pending ∙ some in cc,
 )
@@ -68,7 +68,7 @@ module _ (g : Program) (good : IsImage g.image) (safety : IsSafe g.image.words) 
         → Followed g s (hs ++ h ∷ []) to
     unit_more calm goes joined =
         let t : Stepped = step_from g f.last.state (given_to h) in
-        let show = shown g t to joined in
+        let show = Together-seen g t to joined in
         record {
           events = f.events ++ t.event ∷ [];
           last = t;
@@ -87,7 +87,7 @@ module _ (g : Program) (good : IsImage g.image) (safety : IsSafe g.image.words) 
     -- the precise machine stood still, with a trap pending in the other one
     held_more : (u : Trap) → w.pending ≡ Some u → Together g f.last to → Followed g s (hs ++ h ∷ []) to
     held_more u pending joined =
-        let show = shown g f.last to joined in
+        let show = Together-seen g f.last to joined in
         record {
           events = f.events;
           last = f.last;

@@ -26,18 +26,18 @@ use Rattle.alpha_mem.specs.Fault.{fault_of}
 use Rattle.alpha_mem.specs.Memory.{bytes_at, write_bytes}
 use Rattle.alpha_mem.proofs.LawLemmas as mem
 use Rattle.alpha_seq.specs.State.{Program, State, Went, Stepped}
-use Rattle.alpha_seq.specs.Step.{next_pc, onward, setting, went, overflowed, computed, accessed, unless, loaded}
+use Rattle.alpha_seq.specs.Step.{next_pc, onward, setting, went, overflowed, lda_value, accessed, unless, loaded}
 use Rattle.alpha_seq.specs.Step.{written_memory, step}
 use Rattle.alpha_seq.specs.Executed.{filled}
-use Rattle.alpha_seq.proofs.Loaded.{loaded_is}
+use Rattle.alpha_seq.proofs.LoadedValues.{loaded_is}
 use Rattle.alpha_imprecise.specs.Step.{triggers}
 use Rattle.alpha_restart.specs.Safe.{is_steady}
 use Rattle.alpha_restart.specs.Match.{Alike, SameBytes, Match}
 use Rattle.alpha_restart.proofs.Registers.{reg-put_unset, reg-put_both}
 use Rattle.alpha_restart.proofs.SourcesAlike.{counts_first, counts_second, counts_moved, counts_source, source_used}
 use Rattle.alpha_restart.proofs.SourcesAlike.{same_read, source_value-Alike, same_result}
-use Rattle.alpha_restart.proofs.Alike.{alike_on}
-use Rattle.alpha_restart.proofs.Bytes.{bytes_on}
+use Rattle.alpha_restart.proofs.RegistersAlike.{alike_on}
+use Rattle.alpha_restart.proofs.BytesAlike.{bytes_on}
 use Rattle.alpha_restart.proofs.Accesses.{granted_here, granted_there, same_loaded, bytes_stored}
 
 -- both steps executed a word, and left matched states behind it
@@ -125,7 +125,7 @@ module _ (code : List ℕ) (q e : ℕ) (s a : State) (h : Match code q e s a) wh
         (step g (Some (address op ra rb disp)) a input)
     address_on op ra rb disp is =
         set_on (Some (address op ra rb disp)) ra _ _ is (λ f. cc) refl
-        (ap (λ x. computed op x disp) (read_at (Some (address op ra rb disp)) rb is (λ low. counts_first rb [] low)))
+        (ap (λ x. lda_value op x disp) (read_at (Some (address op ra rb disp)) rb is (λ low. counts_first rb [] low)))
 
     never_triggers : (op : TrapOp) (x y rc : ℕ) (z : State) (b : Bool) → b ≡ false
         → went (setting z rc (completed_of op x y g.completion))

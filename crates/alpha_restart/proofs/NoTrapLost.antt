@@ -6,7 +6,7 @@ use Rattle.alpha_table.specs.Class.{Class, operate, trigger, address}
 use Rattle.alpha_table.specs.Code.{class_at}
 use Rattle.alpha_values.specs.TrapOp.{stops}
 use Rattle.alpha_image.specs.Parts.{Parts, IsImage, place_of}
-use Rattle.alpha_image.proofs.Places.{place_of-code}
+use Rattle.alpha_image.proofs.CodePlaces.{place_of-code}
 use Rattle.alpha_shadow.specs.Broken.{IsAccepted}
 use Rattle.alpha_seq.specs.declared.end.End.TheVariants.{Overflow}
 use Rattle.alpha_seq.specs.State.{Program, State, Ends, Stepped}

@@ -12,14 +12,14 @@ use Rattle.alpha_trap.specs.Completed.{completed_regs}
 use Rattle.alpha_imprecise.specs.StepResult.{Trap, Choice, Precisely, Reported, StepResult, step_result}
 use Rattle.alpha_imprecise.specs.Step.{can_wait, waited, address_at, completed, landed, report, imprecise_step}
 use Rattle.alpha_imprecise.specs.Step.{imprecise_step_at}
-use Rattle.alpha_imprecise.proofs.Landed.{report_at}
+use Rattle.alpha_imprecise.proofs.ReportLandings.{report_at}
 use Rattle.alpha_restart.specs.Safe.{IsSafe}
 use Rattle.alpha_restart.specs.Match.{Alike, Match}
 use Rattle.alpha_restart.specs.Trigger.{trigger_value}
 use Rattle.alpha_restart.specs.Invariant.{Trail, Synced, Window, Stopping, Stopped, Together, synced, window, stopping}
 use Rattle.alpha_restart.specs.Invariant.{stopped}
 use Rattle.alpha_restart.proofs.Shadows.{report_alike}
-use Rattle.alpha_restart.proofs.Places.{next_class-class_at, trail_scan}
+use Rattle.alpha_restart.proofs.ImagePlaces.{next_class-class_at, trail_scan}
 use Rattle.alpha_restart.proofs.UnpredictableSteps.{waits_window, waits_stopping}
 
 -- a word that isn't reported at can wait

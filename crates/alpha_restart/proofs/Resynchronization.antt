@@ -19,8 +19,8 @@ use Rattle.alpha_restart.specs.Match.{Match}
 use Rattle.alpha_restart.specs.Trigger.{Trigger, trigger_value}
 use Rattle.alpha_restart.specs.Invariant.{Synced, Together, synced}
 use Rattle.alpha_restart.proofs.MatchedSteps.{BothWent, advances, same_trigger}
-use Rattle.alpha_restart.proofs.Places.{next_class-class_at, next_address, steady_within}
-use Rattle.alpha_restart.proofs.Precise.{overflows}
+use Rattle.alpha_restart.proofs.ImagePlaces.{next_class-class_at, next_address, steady_within}
+use Rattle.alpha_restart.proofs.StepsWithoutPending.{overflows}
 use Rattle.alpha_restart.proofs.Together.{match_end, overflowed-cond, from_same}
 
 no_barrier : (event : Event) → event ≡ Went → (traffic : Traffic) (pc : ℕ) (regs : List ℕ)

@@ -9,7 +9,7 @@ use Rattle.alpha_shadow.specs.Code.{SetIn}
 use Rattle.alpha_shadow.specs.declared.broken.Condition.{Condition}
 use Rattle.alpha_shadow.specs.declared.broken.Condition.TheVariants as conditions
 use Rattle.alpha_shadow.specs.Broken.{Holds, IsAccepted}
-use Rattle.alpha_trap.proofs.Columns.{has_rc_trigger}
+use Rattle.alpha_trap.proofs.ClassTests.{has_rc_trigger}
 use Rattle.alpha_restart.specs.Safe.{Shadowed, IsSafe}
 
 module _ (code : List ℕ) (accepted : IsAccepted code) where

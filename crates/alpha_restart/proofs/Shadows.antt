@@ -21,8 +21,8 @@ use Rattle.alpha_restart.specs.Trigger.{Trigger, trigger_word, trigger_value}
 use Rattle.alpha_restart.specs.Shadow.{Shadow}
 use Rattle.alpha_restart.proofs.Registers.{has_cases, reg-past, reg-put_other, reg-put_same, reg-put_unset, counted_set}
 use Rattle.alpha_restart.proofs.SourcesAlike.{counts_first, source_used, counts_source, set_not_31}
-use Rattle.alpha_restart.proofs.Alike.{dead_on, dead_more, steady_more}
-use Rattle.alpha_restart.proofs.Bytes.{SameUnset}
+use Rattle.alpha_restart.proofs.RegistersAlike.{dead_on, dead_more, steady_more}
+use Rattle.alpha_restart.proofs.BytesAlike.{SameUnset}
 
 -- steady words run straight on
 steady_straight : (i : InsnKind) → steady_kind i ≡ true → (Some i ≢ Some kinds.Barrier) × (Some i ≢ Some kinds.Turn)

@@ -11,7 +11,7 @@ use Rattle.alpha_table.specs.declared.form.Src.{Src}
 use Rattle.alpha_table.specs.declared.form.Src.TheVariants.{Reg, Lit}
 use Rattle.alpha_table.specs.Class.{Class}
 use Rattle.alpha_table.specs.Code.{class_at}
-use Rattle.alpha_table.specs.Uses.{source_registers, is_move, written, but_zero, counts, sets, uses}
+use Rattle.alpha_table.specs.Uses.{source_registers, is_move, written_register, but_zero, counts, sets, uses}
 use Rattle.alpha_values.specs.Op.{result_of}
 use Rattle.alpha_values.specs.Source.{source_value}
 use Rattle.alpha_restart.specs.Match.{Dead, Alike}
@@ -51,7 +51,7 @@ source_used x src is =
 -- R31 is never set
 pub set_not_31 : (o : Option Class) → sets o ≢ Some 31
 set_not_31 None e = cc
-set_not_31 (Some class) e = by (written class) e
+set_not_31 (Some class) e = by (written_register class) e
   where
     by : (o : Option ℕ) → but_zero o ≢ Some 31
     by None e = cc

@@ -15,7 +15,7 @@ use Rattle.alpha_mem.specs.Memory.{IsFree, IsLayout}
 use Rattle.alpha_image.specs.declared.segment.Segment.{Segment}
 use Rattle.alpha_image.specs.Layout.{longword}
 use Rattle.alpha_image.specs.Parts.{Parts, Piece, IsImage, pieces}
-use Rattle.alpha_image.proofs.Pieces.{length-pieces_of}
+use Rattle.alpha_image.proofs.SegmentShares.{length-pieces_of}
 use Rattle.alpha_seq.specs.State.{Program}
 use Rattle.alpha_seq.specs.Start.{stack_end, start_memory, start_regs, start}
 use Rattle.alpha_seq.specs.StartMemory.{memory_before}

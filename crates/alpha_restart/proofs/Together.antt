@@ -10,7 +10,7 @@ use Rattle.alpha_values.specs.TrapOp.{overflow_of}
 use Rattle.alpha_mem.specs.Block.{Block}
 use Rattle.alpha_mem.specs.Memory.{IsLayout}
 use Rattle.alpha_image.specs.Parts.{IsImage, place_of}
-use Rattle.alpha_image.proofs.Places.{place_of-code}
+use Rattle.alpha_image.proofs.CodePlaces.{place_of-code}
 use Rattle.alpha_seq.specs.State.{Program, State, Went, Stepped}
 use Rattle.alpha_seq.specs.Step.{setting, went, overflowed, next_class, step, step_from}
 use Rattle.alpha_seq.proofs.SingleSteps.{StepLeaves-step}
@@ -20,9 +20,9 @@ use Rattle.alpha_restart.specs.Safe.{IsSafe}
 use Rattle.alpha_restart.specs.Match.{Match}
 use Rattle.alpha_restart.specs.Trigger.{Trigger, trigger_value}
 use Rattle.alpha_restart.specs.Invariant.{IsReady, Exact, Together, exact}
-use Rattle.alpha_restart.proofs.Alike.{alike_same, alike_end}
-use Rattle.alpha_restart.proofs.Bytes.{bytes_same, bytes_end}
-use Rattle.alpha_restart.proofs.Precise.{overflows}
+use Rattle.alpha_restart.proofs.RegistersAlike.{alike_same, alike_end}
+use Rattle.alpha_restart.proofs.BytesAlike.{bytes_same, bytes_end}
+use Rattle.alpha_restart.proofs.StepsWithoutPending.{overflows}
 
 -- a state is matched with itself
 match_same : (code : List ℕ) (q : ℕ) (s : State) → IsReady s → Match code q q s s

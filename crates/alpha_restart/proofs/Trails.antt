@@ -16,8 +16,8 @@ use Rattle.alpha_imprecise.specs.ImpreciseState.{mask_after}
 use Rattle.alpha_restart.specs.Safe.{IsSafe, is_steady}
 use Rattle.alpha_restart.specs.Trigger.{Trigger, trigger_word}
 use Rattle.alpha_restart.specs.Invariant.{Trail}
-use Rattle.alpha_restart.proofs.Words.{low_destination}
-use Rattle.alpha_restart.proofs.Places.{place_within, next_address, steady_within}
+use Rattle.alpha_restart.proofs.CodeWordBounds.{low_destination}
+use Rattle.alpha_restart.proofs.ImagePlaces.{place_within, next_address, steady_within}
 
 -- ---- masks
 

@@ -11,14 +11,14 @@ use Rattle.alpha_table.specs.Code.{class_at, kind}
 use Rattle.alpha_table.specs.Uses.{access}
 use Rattle.alpha_values.specs.Numbers.{register_of}
 use Rattle.alpha_values.specs.Address.{address_of, access_address, Covers, AccessesMeet}
-use Rattle.alpha_values.proofs.Words.{register_is}
+use Rattle.alpha_values.proofs.MachineWords.{register_is}
 use Rattle.alpha_values.proofs.AddressLemmas.{common-meets}
 use Rattle.alpha_mem.specs.Block.{Block, shapes}
 use Rattle.alpha_mem.specs.Memory.{byte_at, write_bytes}
 use Rattle.alpha_mem.proofs.LawLemmas as mem
 use Rattle.alpha_restart.specs.Safe.{Shadowed, IsSafe}
 use Rattle.alpha_restart.specs.Match.{Reached, DeadByte, SameBytes, intent_of}
-use Rattle.alpha_restart.proofs.Words.{access-IsNarrow}
+use Rattle.alpha_restart.proofs.CodeWordBounds.{access-IsNarrow}
 
 -- ---- addresses by any base
 

@@ -21,7 +21,7 @@ use Rattle.alpha_seq.specs.State.{Program, State, Stepped}
 use Rattle.alpha_seq.specs.Step.{accessed}
 use Rattle.alpha_imprecise.specs.StepResult.{Choice, StepResult}
 use Rattle.alpha_imprecise.specs.Step.{can_wait, unpredictable_state, waited}
-use Rattle.alpha_trap.proofs.Columns.{has_rc_trigger}
+use Rattle.alpha_trap.proofs.ClassTests.{has_rc_trigger}
 use Rattle.alpha_restart.specs.Safe.{Shadowed, IsSafe, is_steady}
 use Rattle.alpha_restart.specs.Match.{Reached, SameBytes, intent_of}
 use Rattle.alpha_restart.specs.Trigger.{Trigger}
@@ -29,7 +29,7 @@ use Rattle.alpha_restart.specs.Shadow.{Shadow}
 use Rattle.alpha_restart.specs.Invariant.{Trail, Window, Stopping}
 use Rattle.alpha_restart.proofs.Registers.{reg-put_unset}
 use Rattle.alpha_restart.proofs.SourcesAlike.{counts_first, counts_second}
-use Rattle.alpha_restart.proofs.Bytes.{SameUnset}
+use Rattle.alpha_restart.proofs.BytesAlike.{SameUnset}
 use Rattle.alpha_restart.proofs.Shadows.{Steady-Straight, Steady-Shadowed, base_same, wait_shadow}
 use Rattle.alpha_restart.proofs.UnpredictableBytes.{bytes_more, SameBytes-unpredictable}
 use Rattle.alpha_restart.proofs.Trails.{trail_on}

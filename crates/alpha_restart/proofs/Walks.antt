@@ -21,7 +21,7 @@ use Rattle.alpha_imprecise.proofs.EffectiveChoices.{next_step_result-same}
 use Rattle.alpha_restart.specs.Table.{IsChoice, StoresIf, Branches, Executed, untold, unchosen, Row, steps, overflows}
 use Rattle.alpha_restart.specs.Table.{reports, waits, IsWalk, walked, WalksAgree}
 use Rattle.alpha_restart.proofs.PendingSteps.{can_be_executed}
-use Rattle.alpha_restart.proofs.Rows.{low_bytes_are, report_untold, row_chosen}
+use Rattle.alpha_restart.proofs.ChoiceRows.{low_bytes_are, report_untold, row_chosen}
 
 -- ---- each choice is a row
 
@@ -36,21 +36,23 @@ executed_branch : (condition : Option Cond) (ra : ℕ) (disp : ℤ) (s : State) 
 executed_branch None ra disp s c small = (c.value, small.value, refl)
 executed_branch (Some condition) ra disp s c small = refl
 
-executed : (o : Option Class) (s : State) (c : Choice) → IsChoice c → can_wait o s ≡ true
+Executed-unpredictable_state : (o : Option Class) (s : State) (c : Choice) → IsChoice c → can_wait o s ≡ true
     → Executed o s (unpredictable_state o s c)
-executed None s c small can = cc
-executed (Some (operate op ra src rc)) s c small can = (c.value, small.value, refl)
-executed (Some (trigger op ra src rc)) s c small can = (c.value, small.value, refl)
-executed (Some (address op ra rb disp)) s c small can = (c.value, small.value, refl)
-executed (Some (load extension at ra)) s c small can = (can, (c.value, small.value, refl))
-executed (Some (store at ra)) s c small can = (can, (low_bytes at.bytes c.bytes, low_bytes_are at.bytes c.bytes, refl))
-executed (Some (load_locked extension at ra)) s c small can = (can, (c.value, small.value, refl))
-executed (Some (store_conditional at ra)) s c small can =
+Executed-unpredictable_state None s c small can = cc
+Executed-unpredictable_state (Some (operate op ra src rc)) s c small can = (c.value, small.value, refl)
+Executed-unpredictable_state (Some (trigger op ra src rc)) s c small can = (c.value, small.value, refl)
+Executed-unpredictable_state (Some (address op ra rb disp)) s c small can = (c.value, small.value, refl)
+Executed-unpredictable_state (Some (load extension at ra)) s c small can = (can, (c.value, small.value, refl))
+Executed-unpredictable_state (Some (store at ra)) s c small can =
+    (can, (low_bytes at.bytes c.bytes, low_bytes_are at.bytes c.bytes, refl))
+Executed-unpredictable_state (Some (load_locked extension at ra)) s c small can = (can, (c.value, small.value, refl))
+Executed-unpredictable_state (Some (store_conditional at ra)) s c small can =
     (can, executed_if at ra s c (matches s.lock (lock_block at s)) small)
-executed (Some (branch condition ra disp)) s c small can = executed_branch condition ra disp s c small
-executed (Some (jump ra rb)) s c small can = (c.value, small.value, refl)
-executed (Some (barrier call)) s c small can = cc
-executed (Some idle) s c small can = refl
+Executed-unpredictable_state (Some (branch condition ra disp)) s c small can =
+    executed_branch condition ra disp s c small
+Executed-unpredictable_state (Some (jump ra rb)) s c small can = (c.value, small.value, refl)
+Executed-unpredictable_state (Some (barrier call)) s c small can = cc
+Executed-unpredictable_state (Some idle) s c small can = refl
 
 mask_chosen : (o : Option Class) (mask : ℕ) (adds : Bool)
     → (mask_after o mask adds ≡ mask) ⊎ (mask_after o mask adds ≡ with_register mask (destination o))
@@ -75,7 +77,9 @@ choice_row g s (Some t) input c small = by (c.report || not (can_wait (next_clas
       t = t;
       some = refl;
       after = unpredictable_state (next_class g s.pc) s c;
-      executed = executed (next_class g s.pc) s c small (can_be_executed c.report (can_wait (next_class g s.pc) s) e);
+      executed =
+          Executed-unpredictable_state (next_class g s.pc) s c small
+          (can_be_executed c.report (can_wait (next_class g s.pc) s) e);
       mask = mask_after (next_class g s.pc) t.mask c.adds;
       adds = mask_chosen (next_class g s.pc) t.mask c.adds;
       is = refl;
@@ -111,8 +115,8 @@ lost_told (Waited adds value bytes) pc mask e = cc
 lost_told (Reported at) pc mask e = cc
 lost_told (Lost at same) pc mask e = e
 
-abbrev ways : List StepResult → List ImpreciseEvent
-ways ms = map (λ (m : StepResult). m.last_event) ms
+abbrev last_events : List StepResult → List ImpreciseEvent
+last_events ms = map (λ (m : StepResult). m.last_event) ms
 
 -- a run, of which the walk tells all but what was chosen
 record Walks (g : Program) (a : StepResult) (ms : List StepResult) : Type 0 where
@@ -120,7 +124,7 @@ record Walks (g : Program) (a : StepResult) (ms : List StepResult) : Type 0 wher
   at : StepResult
   runs : RunsImprecisely g a steps at
   end : unchosen at ≡ walked (unchosen a) ms
-  same : seen steps ≡ seen (ways ms)
+  same : seen steps ≡ seen (last_events ms)
 
 walk_run : (g : Program) (a : StepResult) (ms : List StepResult) → IsWalk g (unchosen a) ms → Walks g a ms
 walk_run g a [] h = record { steps = []; at = a; runs = refl; end = refl; same = refl }
@@ -163,6 +167,6 @@ pub walks_agree : (image : Parts) → IsRestartable image → WalksAgree image
 walks_agree image h = λ completion ms walk.
     let g : Program = record { image = image; completion = completion } in
     let w = walk_run g (imprecise_start (start g)) ms walk in
-    subst (λ (x : StepResult). Agrees g (start g) (seen (ways ms)) x) w.end
+    subst (λ (x : StepResult). Agrees g (start g) (seen (last_events ms)) x) w.end
     (subst (λ l. Agrees g (start g) l (unchosen w.at)) w.same
     (agree_told g (start g) (seen w.steps) w.at (h completion w.steps w.at w.runs)))

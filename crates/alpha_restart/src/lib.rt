@@ -21,14 +21,14 @@
 //! machines may differ, `Trigger.antt` and `Shadow.antt` the registers while a trap is pending,
 //! `Invariant.antt` how two runs stand to each other after each step.
 //!
-//! The proofs, lowest first: `Safety.antt` (accepted code is safe), `Words.antt`, `Registers.antt`
-//! and `Places.antt` (the code, its registers and its addresses), `SourcesAlike.antt`, `Alike.antt`,
-//! `Bytes.antt`, `Accesses.antt` and `MatchedSteps.antt` (one precise step in both machines),
+//! The proofs, lowest first: `Safety.antt` (accepted code is safe), `CodeWordBounds.antt`, `Registers.antt`
+//! and `ImagePlaces.antt` (the code, its registers and its addresses), `SourcesAlike.antt`, `RegistersAlike.antt`,
+//! `BytesAlike.antt`, `Accesses.antt` and `MatchedSteps.antt` (one precise step in both machines),
 //! `Shadows.antt`, `UnpredictableBytes.antt` and `Trails.antt` (registers, bytes and the mask while a trap is
-//! pending), `Precise.antt`, `Together.antt`, `Resynchronization.antt`, `UnpredictableSteps.antt` and
+//! pending), `StepsWithoutPending.antt`, `Together.antt`, `Resynchronization.antt`, `UnpredictableSteps.antt` and
 //! `PendingSteps.antt` (each kind of step has the invariant hold), `StartState.antt` (the start) and `Agreement.antt`
 //! (it holds after every run, and the law). `NoTrapLost.antt` has that no trap is lost. `Columns.antt` has the
-//! laws of columns, `Rows.antt` and `Walks.antt` the table, `Fine.antt` a test for broken places and
+//! laws of columns, `ChoiceRows.antt` and `Walks.antt` the table, `BrokenTests.antt` a test for broken places and
 //! `Needed.antt` an image for each condition. What follows for runs is proved in `alpha_imprecise`
 //! (`proofs/Showing.antt`).
 #![tactic(auto)]

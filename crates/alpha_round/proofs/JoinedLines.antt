@@ -33,15 +33,15 @@ strip_carriage_return-inside (b ∷ l) h =
     let other : eqb (get_or (b ∷ l) (length (b ∷ l) - 1) 0) 13 ≡ false = grind (arith, nat_tests) in
     rw other refl
 
-more_parts : (x : List ℕ) (parts : List (List ℕ)) → 0 < length parts
+lines_of_parts-cons : (x : List ℕ) (parts : List (List ℕ)) → 0 < length parts
     → lines_of_parts (x ∷ parts) ≡ strip_carriage_return x ∷ lines_of_parts parts
-more_parts x [] h = absurd (omega arith)
-more_parts x (y ∷ parts) h = refl
+lines_of_parts-cons x [] h = absurd (omega arith)
+lines_of_parts-cons x (y ∷ parts) h = refl
 
 first_line : (l s : List ℕ) → AreInside l → lines (l ++ (10 ∷ s)) ≡ l ∷ lines s
 first_line l s h =
     ap lines_of_parts (slice_split_at (λ b. eqb b 10) l 10 s (no_feed l h) refl)
-    ∙ (more_parts l (slice_split (λ b. eqb b 10) s) (omega (arith, length-slice_split (λ b. eqb b 10) s))
+    ∙ (lines_of_parts-cons l (slice_split (λ b. eqb b 10) s) (omega (arith, length-slice_split (λ b. eqb b 10) s))
     ∙ ap (λ x. x ∷ lines s) (strip_carriage_return-inside l h))
 
 pub lines-text : (ls : List (List ℕ)) → AllByRecursion AreInside ls → lines (text ls) ≡ ls

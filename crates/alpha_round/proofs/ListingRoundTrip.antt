@@ -20,15 +20,17 @@ use Rattle.alpha_asm.specs.declared.kind.SourceKind.TheVariants as source_kinds
 use Rattle.alpha_asm.specs.Assembled.{item_at, first_refused, assembled}
 use Rattle.alpha_dis.specs.Listing.{first_lines, heading, code_line, byte_line, rows, rows_of, segment_line}
 use Rattle.alpha_dis.specs.Listing.{piece_lines, lines, listing}
-use Rattle.alpha_round.proofs.Items.{first_statements, more_heading, row_statement, segment_statement, piece_statements}
-use Rattle.alpha_round.proofs.Items.{statements, items}
+use Rattle.alpha_round.proofs.ListingItems.{first_statements, more_heading, row_statement, segment_statement}
+use Rattle.alpha_round.proofs.ListingItems.{piece_statements}
+use Rattle.alpha_round.proofs.ListingItems.{statements, listing_items}
 use Rattle.alpha_round.proofs.JoinedLines.{lines-text}
-use Rattle.alpha_round.proofs.Plain.{IsLineOf, Say, Say-append, all_inside, none_refused}
-use Rattle.alpha_round.proofs.Program.{all_fit, all_single, items_made}
-use Rattle.alpha_round.proofs.Directives.{code_base_line, data_base_line, entry_line, segment_line as line_of_segment}
-use Rattle.alpha_round.proofs.Directives.{stack_line, zero_line, level_line, code_line as line_of_code, data_line}
-use Rattle.alpha_round.proofs.Directives.{row_line}
-use Rattle.alpha_round.proofs.Codes.{code_say}
+use Rattle.alpha_round.proofs.StatementsAlone.{IsLineOf, AreLinesOf, AreLinesOf-append, all_inside, none_refused}
+use Rattle.alpha_round.proofs.ItemsOfListing.{all_fit, all_single, items_made}
+use Rattle.alpha_round.proofs.DirectiveLines.{code_base_line, data_base_line, entry_line}
+use Rattle.alpha_round.proofs.DirectiveLines.{segment_line as line_of_segment}
+use Rattle.alpha_round.proofs.DirectiveLines.{stack_line, zero_line, level_line, code_line as line_of_code, data_line}
+use Rattle.alpha_round.proofs.DirectiveLines.{row_line}
+use Rattle.alpha_round.proofs.CodeLines.{code_say}
 
 -- ---- the heading
 
@@ -41,17 +43,17 @@ first_base [] one h = absurd (omega arith)
 first_base (s ∷ rest) one h = small_base s.base (h 0 s (omega arith))
 
 first_say : (v : Version) (p : Parts) → SuitsVersion v (numbers p) → IsBase p.code_base
-    → All (λ s. IsBase s.base) p.segments → Say (first_lines v p) (first_statements v p)
+    → All (λ s. IsBase s.base) p.segments → AreLinesOf (first_lines v p) (first_statements v p)
 first_say One p s base bases = (
   code_base_line p.code_base (small_base p.code_base base),
   (data_base_line (first_segment p.segments).base (first_base p.segments s.1 bases), tt),
 )
 first_say Two p s base bases = (level_line p.level, (code_base_line p.code_base (small_base p.code_base base), tt))
 
-heading_say : (p : Parts) → IsImage p → Say (heading p) (first_statements p.version p ++ more_heading p)
+heading_say : (p : Parts) → IsImage p → AreLinesOf (heading p) (first_statements p.version p ++ more_heading p)
 heading_say p good =
     let f = good.fields in
-    Say-append (first_lines p.version p) _ (first_statements p.version p) (more_heading p)
+    AreLinesOf-append (first_lines p.version p) _ (first_statements p.version p) (more_heading p)
     (first_say p.version p good.version f.code_base f.data_bases.0) (
       stack_line p.stack (omega (arith, f.stack.1)),
       (entry_line p.entry (omega (arith, f.entry.1.1, f.words.2)), (line_of_code, tt)),
@@ -60,7 +62,7 @@ heading_say p good =
 -- ---- the segments
 
 rows_say : (n : ℕ) (bytes : List ℕ) → n ≡ (length bytes + 15) / 16 → All IsByte bytes
-    → Say (map byte_line (rows_of n bytes)) (map row_statement (rows_of n bytes))
+    → AreLinesOf (map byte_line (rows_of n bytes)) (map row_statement (rows_of n bytes))
 rows_say zero bytes e h = tt
 rows_say (suc n) [] e h = absurd (omega arith)
 rows_say (suc n) (b ∷ bytes) e h = (
@@ -73,23 +75,23 @@ start_say One base h = data_line
 start_say Two base h = line_of_segment base h
 
 segment_say : (v : Version) (base : ℕ) (bytes : List ℕ) (z : ℕ) → base < 2 ^ 64 → z ≤ 16777216 → All IsByte bytes
-    → Say (piece_lines v (record { base = base; bytes = bytes; zeroed = z }))
+    → AreLinesOf (piece_lines v (record { base = base; bytes = bytes; zeroed = z }))
     (piece_statements v (record { base = base; bytes = bytes; zeroed = z }))
 segment_say v base bytes z a b h = (
   start_say v base a,
-  Say-append (map byte_line (rows bytes)) _ (map row_statement (rows bytes)) (says.zero z ∷ [])
+  AreLinesOf-append (map byte_line (rows bytes)) _ (map row_statement (rows bytes)) (says.zero z ∷ [])
       (rows_say ((length bytes + 15) / 16) bytes refl h) (zero_line z b, tt),
 )
 
 segments_say : (v : Version) (segments : List Segment) (bytes : List ℕ) → All (λ s. IsBase s.base) segments
     → sum_by size_of_segment segments ≤ 16777216 → All IsByte bytes
-    → Say (flat_map (piece_lines v) (pieces_of segments bytes))
+    → AreLinesOf (flat_map (piece_lines v) (pieces_of segments bytes))
     (flat_map (piece_statements v) (pieces_of segments bytes))
 segments_say v [] bytes bases few h = tt
 segments_say v (s ∷ rest) bytes bases few h =
     let whole : sum_by size_of_segment (s ∷ rest) ≡ s.filled + s.zeroed + sum_by size_of_segment rest =
     sum_by-cons size_of_segment s rest in
-    Say-append (piece_lines v (record { base = s.base; bytes = take s.filled bytes; zeroed = s.zeroed }))
+    AreLinesOf-append (piece_lines v (record { base = s.base; bytes = take s.filled bytes; zeroed = s.zeroed }))
     (flat_map (piece_lines v) (pieces_of rest (drop s.filled bytes)))
     (piece_statements v (record { base = s.base; bytes = take s.filled bytes; zeroed = s.zeroed }))
     (flat_map (piece_statements v) (pieces_of rest (drop s.filled bytes)))
@@ -100,14 +102,14 @@ segments_say v (s ∷ rest) bytes bases few h =
 
 -- ---- the whole
 
-pub all_say : (p : Parts) → IsImage p → Say (lines p) (statements p)
+pub all_say : (p : Parts) → IsImage p → AreLinesOf (lines p) (statements p)
 unfolding lines statements
 all_say p good =
-    Say-append (heading p) (map code_line p.words ++ flat_map (piece_lines p.version) (pieces p))
+    AreLinesOf-append (heading p) (map code_line p.words ++ flat_map (piece_lines p.version) (pieces p))
     (first_statements p.version p ++ more_heading p)
     (map says.code (filter_map decoded p.words) ++ flat_map (piece_statements p.version) (pieces p))
     (heading_say p good)
-    (Say-append (map code_line p.words) (flat_map (piece_lines p.version) (pieces p))
+    (AreLinesOf-append (map code_line p.words) (flat_map (piece_lines p.version) (pieces p))
     (map says.code (filter_map decoded p.words)) (flat_map (piece_statements p.version) (pieces p))
     (code_say p.level p.words good.words)
     (segments_say p.version p.segments p.bytes good.fields.data_bases.0 good.fields.zeroed.0 good.bytes))
@@ -117,7 +119,7 @@ unfolding listing
 listing_cut p good = lines-text (lines p) (all_inside (lines p) (statements p) (all_say p good))
 
 lines_taken : (p : Parts) → IsImage p
-    → (first_refused source_kinds.Program [] (lines p) ≡ None) × (map item_at (lines p) ≡ items p)
+    → (first_refused source_kinds.Program [] (lines p) ≡ None) × (map item_at (lines p) ≡ listing_items p)
 unfolding end
 lines_taken p good = none_refused [] (lines p) (statements p) (all_say p good) (all_fit p good) (all_single p)
 

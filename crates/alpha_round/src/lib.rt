@@ -9,14 +9,14 @@
 //! source is a source of. So where `alpha_dis::list` wrote all of its text, that text is a source of the
 //! image; and where `alpha_asm::assemble` gives an image for a text, the text is a source of that one.
 //!
-//! The proofs of the law of listings, lowest first: `Items.antt` has the statements that the lines of a
-//! listing say. `JoinedLines.antt` (joined lines are cut into these lines again), `Digits.antt` (texts of
-//! numbers), `Rows.antt` (the values of a row of bytes), `Plain.antt` (statements without labels: none is
-//! refused, and what they make), `ListedProgram.antt` (what the statements of a listing make), `Places.antt` and
-//! `Segments.antt` (where they lead), `Program.antt` (they make the program of the image),
-//! `Directives.antt` and `Codes.antt` (each line reads back), `ListingRoundTrip.antt` (the law), `Same.antt` (a
-//! source is one of one image) and `Sizes.antt` (the length of a listing). Of the laws of sources:
-//! `Insns.antt` (what a line says is an instruction of the table) and `Sources.antt` (the image).
+//! The proofs of the law of listings, lowest first: `ListingItems.antt` has the statements that the lines of a
+//! listing say. `JoinedLines.antt` (joined lines are cut into these lines again), `NumberTexts.antt` (texts of
+//! numbers), `DataRows.antt` (the values of a row of bytes), `StatementsAlone.antt` (statements without labels: none is
+//! refused, and what they make), `ListedProgram.antt` (what the statements of a listing make), `ListingPlaces.antt` and
+//! `SegmentStatements.antt` (where they lead), `ItemsOfListing.antt` (they make the program of the image),
+//! `DirectiveLines.antt` and `CodeLines.antt` (each line reads back), `ListingRoundTrip.antt` (the law),
+//! `SameImage.antt` (a source is one of one image) and `ListingSizes.antt` (the length of a listing). Of the laws of
+//! sources: `LineInsns.antt` (what a line says is an instruction of the table) and `UnrefusedSources.antt` (the image).
 #![tactic(auto)]
 
 mod laws;

@@ -33,7 +33,7 @@ use Rattle.alpha_imprecise.specs.Step.{triggers, triggered, precisely, address_a
 use Rattle.alpha_imprecise.specs.Step.{imprecise_step_at}
 use Rattle.alpha_imprecise.specs.Run.{seen_of}
 use Rattle.alpha_imprecise.specs.ImpreciseStepEffect.{shown_as}
-use Rattle.alpha_imprecise.proofs.Landed.{report_at}
+use Rattle.alpha_imprecise.proofs.ReportLandings.{report_at}
 use Rattle.alpha_run.specs.Noted.{noted}
 
 -- ---- the sequential machine
@@ -42,47 +42,47 @@ abbrev pub IsSaid : Event → State → Type 0
 IsSaid (Barriered traffic pc regs) s = (pc ≡ s.pc) × (regs ≡ s.regs)
 IsSaid event s = ⊤
 
-abbrev pub Says : Stepped → Type 0
-Says t = IsSaid t.event t.state
+abbrev pub IsSaidOf : Stepped → Type 0
+IsSaidOf t = IsSaid t.event t.state
 
-either : (b : Bool) (t u : Stepped) → Says t → Says u → Says (cond b t u)
-either true t u p q = p
-either false t u p q = q
+IsSaidOf-cond : (b : Bool) (t u : Stepped) → IsSaidOf t → IsSaidOf u → IsSaidOf (cond b t u)
+IsSaidOf-cond true t u p q = p
+IsSaidOf-cond false t u p q = q
 
-overflow : (completion : Completion) (s : State) (rc v : ℕ) → Says (overflowed completion s rc v)
-overflow Wrap s rc v = tt
-overflow Saturate s rc v = tt
-overflow Stop s rc v = tt
+IsSaidOf-overflowed : (completion : Completion) (s : State) (rc v : ℕ) → IsSaidOf (overflowed completion s rc v)
+IsSaidOf-overflowed Wrap s rc v = tt
+IsSaidOf-overflowed Saturate s rc v = tt
+IsSaidOf-overflowed Stop s rc v = tt
 
-access : (fault : Option MemFault) (addr : ℕ) (s t : State) → Says (unless fault addr s t)
-access None addr s t = tt
-access (Some fault) addr s t = tt
+IsSaidOf-unless : (fault : Option MemFault) (addr : ℕ) (s t : State) → IsSaidOf (unless fault addr s t)
+IsSaidOf-unless None addr s t = tt
+IsSaidOf-unless (Some fault) addr s t = tt
 
 abbrev fault_at : Intent → MemAccess → State → Option MemFault
 fault_at intent at s = fault_of (shapes s.mem) intent (accessed at s) at.bytes
 
-returned_says : (function : PalCall) (c : Called) (s : State) → Says (returned function c s)
+returned_says : (function : PalCall) (c : Called) (s : State) → IsSaidOf (returned function c s)
 returned_says function (continues regs mem unique traffic) s = (refl, refl)
 returned_says function (exits v) s = tt
 returned_says function (signals code) s = tt
 
-pub step_says : (g : Program) (class : Option Class) (s : State) (input : List ℕ) → Says (step g class s input)
+pub step_says : (g : Program) (class : Option Class) (s : State) (input : List ℕ) → IsSaidOf (step g class s input)
 step_says g None s input = tt
 step_says g (Some (operate op ra src rc)) s input = tt
 step_says g (Some (trigger op ra src rc)) s input =
     let v = completed_of op (reg s.regs ra) (source_value s.regs src) g.completion in
-    either (overflow_of op (reg s.regs ra) (source_value s.regs src)) (overflowed g.completion s rc v)
-    (went (setting s rc v)) (overflow g.completion s rc v) tt
+    IsSaidOf-cond (overflow_of op (reg s.regs ra) (source_value s.regs src)) (overflowed g.completion s rc v)
+    (went (setting s rc v)) (IsSaidOf-overflowed g.completion s rc v) tt
 step_says g (Some (address op ra rb disp)) s input = tt
 step_says g (Some (load extension at ra)) s input =
-    access (fault_at Load at s) (accessed at s) s (setting s ra (loaded extension at s))
+    IsSaidOf-unless (fault_at Load at s) (accessed at s) s (setting s ra (loaded extension at s))
 step_says g (Some (store at ra)) s input =
-    access (fault_at Store at s) (accessed at s) s (record (onward s) { mem = written_memory at ra s })
+    IsSaidOf-unless (fault_at Store at s) (accessed at s) s (record (onward s) { mem = written_memory at ra s })
 step_says g (Some (load_locked extension at ra)) s input =
-    access (fault_at Load at s) (accessed at s) s
+    IsSaidOf-unless (fault_at Load at s) (accessed at s) s
     (record (setting s ra (loaded extension at s)) { lock = Some (lock_block at s) })
 step_says g (Some (store_conditional at ra)) s input =
-    access (fault_at Store at s) (accessed at s) s (conditional (matches s.lock (lock_block at s)) at ra s)
+    IsSaidOf-unless (fault_at Store at s) (accessed at s) s (conditional (matches s.lock (lock_block at s)) at ra s)
 step_says g (Some (branch condition ra disp)) s input = tt
 step_says g (Some (jump ra rb)) s input = tt
 step_says g (Some (barrier None)) s input = (refl, refl)

@@ -24,7 +24,7 @@ use Rattle.alpha_imprecise.specs.ImpreciseStepEffect.{ImpreciseStep, ImpreciseRe
 use Rattle.alpha_imprecise.specs.ImpreciseFastSteps.{ImpreciseFastSteps}
 use Rattle.alpha_imprecise.proofs.ImpreciseFastStepLaws.{ImpreciseFastSteps-fold}
 use Rattle.alpha_run.specs.Row.{Row, OnlyWent, AreWent, FastSteps}
-use Rattle.alpha_run.proofs.Rows.{Row-append}
+use Rattle.alpha_run.proofs.StepRows.{Row-append}
 
 -- a step that only went on
 abbrev went_to : Machine → StepLabel

@@ -32,7 +32,7 @@ use Rattle.alpha_run.specs.Noted.{noted, lines_of as lines_seen, stays, never}
 use Rattle.alpha_run.specs.RunEffect.{Watching, watching, drawn_to, ContinuesRun, EndsRun, RunsTo, IsPrefixRun}
 use Rattle.alpha_run.specs.ImpreciseRan.{kernel_after_imprecise, ImpreciseRan, ended_as, ImpreciseRanAs}
 use Rattle.alpha_run.specs.ImpreciseRan.{ImprecisePrefixRun}
-use Rattle.alpha_run.proofs.Rows.{label_units-append}
+use Rattle.alpha_run.proofs.StepRows.{label_units-append}
 use Rattle.alpha_run.proofs.EventLines.{SaysImprecise, imprecise_says, imprecise_lines}
 use Rattle.alpha_run.proofs.SeqRuns.{all_lines, lines-last}
 use Rattle.alpha_run.proofs.SeqShown.{notes-append}

@@ -12,7 +12,7 @@ use Rattle.alpha_seq.specs.Run.{Fed, output, notes}
 use Rattle.alpha_seq.specs.Machine.{program_of, state_of}
 use Rattle.alpha_seq.specs.Devices.{Drawn}
 use Rattle.alpha_seq.proofs.RunSteps.{WritesBetween-prefix}
-use Rattle.alpha_seq.proofs.Sequence.{Fed-append}
+use Rattle.alpha_seq.proofs.RunSequence.{Fed-append}
 use Rattle.alpha_imprecise.specs.declared.pending.Pending.{Pending}
 use Rattle.alpha_imprecise.specs.StepResult.{Trap, ImpreciseEvent, Precisely, Triggered, Waited, Reported, Lost}
 use Rattle.alpha_imprecise.specs.StepResult.{StepResult, step_result}
@@ -26,13 +26,13 @@ use Rattle.alpha_imprecise.specs.ImpreciseState.{ImpreciseState, trap_in, waited
 use Rattle.alpha_imprecise.specs.Fronts.{IsFrontBy}
 use Rattle.alpha_imprecise.proofs.PendingTraps.{stepped_chosen_run, advance_chosen_run-going, none_of, made_any}
 use Rattle.alpha_imprecise.proofs.StepBounds.{steps-first, steps-then, IsWithin-pending}
-use Rattle.alpha_imprecise.proofs.Sequence.{seen_steps-append, RunsImprecisely-append, units_of_steps-append}
+use Rattle.alpha_imprecise.proofs.ImpreciseSequence.{seen_steps-append, RunsImprecisely-append, units_of_steps-append}
 use Rattle.alpha_imprecise.proofs.WordDraws.{words_drawn, words_most, words_all}
-use Rattle.alpha_imprecise.proofs.Drawn.{chosen_run_with, Draws-last, waits-last, chosen_run_with-chosen_run}
-use Rattle.alpha_imprecise.proofs.Drawn.{begun-chosen_run}
-use Rattle.alpha_imprecise.proofs.Drawn.{drawn_told, units_grow, stays_over, chosen_run-IsMade}
+use Rattle.alpha_imprecise.proofs.DrawnRuns.{chosen_run_with, Draws-last, waits-last, chosen_run_with-chosen_run}
+use Rattle.alpha_imprecise.proofs.DrawnRuns.{begun-chosen_run}
+use Rattle.alpha_imprecise.proofs.DrawnRuns.{drawn_told, units_grow, stays_over, chosen_run-IsMade}
 use Rattle.alpha_run.specs.ImpreciseRan.{moment_at, ImpreciseRan, ended_as, ImpreciseRanAs, ImprecisePrefixRun}
-use Rattle.alpha_run.proofs.Rows.{output-append}
+use Rattle.alpha_run.proofs.StepRows.{output-append}
 use Rattle.alpha_run.proofs.SeqShown.{notes-append}
 use Rattle.alpha_run.proofs.ImpreciseRuns.{step_is, step_chosen, step_drops}
 

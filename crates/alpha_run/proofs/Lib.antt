@@ -1,4 +1,4 @@
-pub mod Rows
+pub mod StepRows
 pub mod NoteLines
 pub mod FastRows
 pub mod ObservedSteps
@@ -8,5 +8,5 @@ pub mod SeqShown
 pub mod ImpreciseRuns
 pub mod ImpreciseShown
 pub mod ShownRuns
-pub mod ByWords
+pub mod RunsByWords
 pub mod RunsOfAccepted

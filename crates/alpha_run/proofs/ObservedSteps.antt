@@ -19,7 +19,7 @@ use Rattle.alpha_imprecise.proofs.ChoicesMade.{OracleDraws-none}
 use Rattle.alpha_seq.specs.State.{Event as Happened}
 use Rattle.alpha_seq.specs.Run.{taken, output}
 use Rattle.alpha_seq.specs.StepEffect.{StepEffect, FaultedStepEffect}
-use Rattle.alpha_seq.proofs.Fronts.{fed_all}
+use Rattle.alpha_seq.proofs.InputPrefixes.{fed_all}
 use Rattle.alpha_run.specs.RunEffect.{watching, drawn_to, StateAfterFault, IsObservedStep, FaultedStep}
 
 -- the step was made, and all of its lines are written

@@ -19,9 +19,9 @@ use Rattle.alpha_imprecise.specs.Oracle.{Oracle}
 use Rattle.alpha_imprecise.specs.ImpreciseState.{ImpreciseState, trap_in, begun_at, step_result_of, IsFresh}
 use Rattle.alpha_imprecise.specs.Restart.{IsRestartable, NeverLoses}
 use Rattle.alpha_imprecise.specs.Shown.{ShowsSame}
-use Rattle.alpha_imprecise.proofs.Fresh.{begun_fresh}
+use Rattle.alpha_imprecise.proofs.FreshRuns.{begun_fresh}
 use Rattle.alpha_imprecise.proofs.ShownRuns.{runs_alike}
-use Rattle.alpha_imprecise.proofs.Drawn.{chosen_run_with}
+use Rattle.alpha_imprecise.proofs.DrawnRuns.{chosen_run_with}
 use Rattle.alpha_run.specs.ImpreciseRan.{ended_as, ImpreciseRanAs, ImprecisePrefixRun}
 use Rattle.alpha_run.specs.SeqRun.{ended_by}
 use Rattle.alpha_run.specs.Shows.{LosesNone, Shows, ShowsSequential}
@@ -91,12 +91,13 @@ none_ended s last is = subst LosesNone (sym is) (by s.end)
     by None = tt
     by (Some end) = tt
 
-shows : (last : Option SeenEvent) (n left : ℕ) (watch : Bool) (old new : ImpreciseState) (before after : Oracle)
+Shows-sequential : (last : Option SeenEvent) (n left : ℕ) (watch : Bool) (old new : ImpreciseState)
+    (before after : Oracle)
     (input : Drawn) (out notes : SinkChange)
     → WholeRun last n left watch old new before after input out notes → (bytes : List ℕ) → input.old.left ≡ Some bytes
     → IsFresh old → IsRestartable old.machine.image
     → Shows (sequential (program_of old.machine) bytes n watch) last input out notes
-shows last n left watch old new before after input out notes w bytes tells fresh restarts =
+Shows-sequential last n left watch old new before after input out notes w bytes tells fresh restarts =
     let ran = w.ran in
     let s = sequential (program_of old.machine) bytes n watch in
     let fed = ran.fed.told bytes tells in
@@ -121,7 +122,7 @@ pub ImpreciseRanAs-restarts : (r : Result (Option SeenEvent) Fault) (n left : �
     → ShowsSequential n watch bytes r old.machine input out notes
 ImpreciseRanAs-restarts (Ok last) n left watch old new before after input out notes did cut bytes tells fresh restarts =
     let s = sequential (program_of old.machine) bytes n watch in
-    let shown = shows last n left watch old new before after input out notes
+    let shown = Shows-sequential last n left watch old new before after input out notes
     (whole_run-ImpreciseRanAs last n left watch old new before after input out notes did) bytes tells fresh restarts in
     record {
       found = none_ended s last shown.answer_is;

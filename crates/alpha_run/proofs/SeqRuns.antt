@@ -20,9 +20,9 @@ use Rattle.alpha_run.specs.Row.{Row, AreGoing, events_of, units_of, lines_by}
 use Rattle.alpha_run.specs.Noted.{noted, lines_of as lines_seen, stays, never}
 use Rattle.alpha_run.specs.RunEffect.{watching, ContinuesRun, EndsRun, RunsTo, IsPrefixRun}
 use Rattle.alpha_run.specs.SeqRun.{kernel_over, ended_by, SeqRan, SeqPrefixRun}
-use Rattle.alpha_run.proofs.Rows.{Row-append, label_units-append, lines-append, events-append}
+use Rattle.alpha_run.proofs.StepRows.{Row-append, label_units-append, lines-append, events-append}
 use Rattle.alpha_run.proofs.NoteLines.{seen-stays}
-use Rattle.alpha_run.proofs.EventLines.{Says, step_says, said_lines}
+use Rattle.alpha_run.proofs.EventLines.{IsSaidOf, step_says, said_lines}
 
 -- ---- one step
 
@@ -61,7 +61,7 @@ all_lines watch ps = lines_by stays lines_seen (record { watch = watch }) ps
 step_lines : (watch : Bool) (p : StepLabel) (old new : Machine) (is : SeqStep old p new)
     → lines_of watch is.last_event ≡ noted watch p.event p.core
 step_lines watch p old new is =
-    let says = subst Says is.is
+    let says = subst IsSaidOf is.is
     (step_says (program_of old) (next_class (program_of old) old.pc) (state_of old) (given is.last_event)) in
     said_lines watch is.last_event is.passed new says
     ∙ (ap (λ e. noted watch e new) (sym is.event) ∙ ap (noted watch p.event) (sym is.core))
@@ -155,27 +155,29 @@ stop_ran g watch (q ∷ ps) p from old mid new program on row going is =
     (seq_finished-is_over old q row.0 row.1 ∙ going.0) row.2 going.1 is)
 
 -- each is a unit
-counts : (ps : List StepLabel) (old new : Machine) → Row SeqStep old ps new → length (events_of ps) ≡ units_of ps
-counts [] old new row = refl
-counts (p ∷ ps) old new row =
+units_of-events : (ps : List StepLabel) (old new : Machine) → Row SeqStep old ps new
+    → length (events_of ps) ≡ units_of ps
+units_of-events [] old new row = refl
+units_of-events (p ∷ ps) old new row =
     let one = ap (λ (l : List Event). length (l ++ events_of ps)) row.1.seen in
-    omega (arith, one, counts ps row.0 new row.2, row.1.units)
+    omega (arith, one, units_of-events ps row.0 new row.2, row.1.units)
 
 pub events_of-last : (ps : List StepLabel) (p : StepLabel) → events_of (ps ++ p ∷ []) ≡ events_of ps ++ p.seen
 events_of-last ps p = events-append ps (p ∷ []) ∙ ap (λ (l : List Event). events_of ps ++ l) (append-nil p.seen)
 
 -- ---- what the run did
 
-spent : (units left : ℕ) (watch : Bool) (old new : Machine) (from to : Notes) (before behind : Oracle) (input : Drawn)
+SeqRan-spent : (units left : ℕ) (watch : Bool) (old new : Machine) (from to : Notes) (before behind : Oracle)
+    (input : Drawn)
     (out sink : SinkChange)
     → from ≡ record { watch = watch } → left < 1
     → ContinuesRun SeqStep (watching stays lines_seen never) units left old new from to before behind input out sink
     → SeqRan None units left watch old new input out sink
-spent units left watch old new from to before behind input out sink is least one =
+SeqRan-spent units left watch old new from to before behind input out sink is least one =
     let ps = one.labels in
     let r = row_ran (program_of old) watch ps Went old new refl refl one.row one.going in
     let last = last_of old new Went ps one.row in
-    let count = counts ps old new one.row in
+    let count = units_of-events ps old new one.row in
     record {
       events = events_of ps;
       at = stepped (state_of new) last;
@@ -193,19 +195,20 @@ spent units left watch old new from to before behind input out sink is least one
       fed = one.effect.fed;
     }
 
-stopped : (units left : ℕ) (event : SeenEvent) (watch : Bool) (old new : Machine) (from to : Notes)
+SeqRan-ended : (units left : ℕ) (event : SeenEvent) (watch : Bool) (old new : Machine) (from to : Notes)
     (before behind : Oracle)
     (input : Drawn) (out sink : SinkChange)
     → from ≡ record { watch = watch }
     → EndsRun SeqStep (watching stays lines_seen never) units left event old new from to before behind input out sink
     → SeqRan (Some event) units left watch old new input out sink
-stopped units left event watch old new from to before behind input out sink is one =
+SeqRan-ended units left event watch old new from to before behind input out sink is one =
     let ps = one.labels in
     let p = one.label in
     let all = ps ++ p ∷ [] in
     let h = one.is.last_event in
     let r = stop_ran (program_of old) watch ps p Went old one.mid new refl refl one.row one.going one.is in
-    let count = counts all old new (Row-append SeqStep ps (p ∷ []) old one.mid new one.row (new, one.is, refl)) in
+    let count =
+    units_of-events all old new (Row-append SeqStep ps (p ∷ []) old one.mid new one.row (new, one.is, refl)) in
     record {
       events = events_of all;
       at = stepped (state_of new) h;
@@ -233,9 +236,9 @@ pub ran_as : (last : Option SeenEvent) (units left : ℕ) (watch : Bool) (old ne
     (watching stays lines_seen never) units left old new from to before behind input out sink
     → SeqRan last units left watch old new input out sink
 ran_as None units left watch old new from to before behind input out sink is did =
-    spent units left watch old new from to before behind input out sink is did.0 did.1
+    SeqRan-spent units left watch old new from to before behind input out sink is did.0 did.1
 ran_as (Some event) units left watch old new from to before behind input out sink is did =
-    stopped units left event watch old new from to before behind input out sink is did
+    SeqRan-ended units left event watch old new from to before behind input out sink is did
 
 pub cut_ran : (fault : Fault) (units left : ℕ) (watch : Bool) (old new : Machine) (from : Notes)
     (before behind : Oracle) (input : Drawn) (out sink : SinkChange)
@@ -248,7 +251,7 @@ cut_ran fault units left watch old new from before behind input out sink is one 
     let p = one.label in
     let r = row_ran (program_of old) watch ps Went old one.mid refl refl one.row one.going in
     let last = last_of old one.mid Went ps one.row in
-    let count = counts ps old one.mid one.row in
+    let count = units_of-events ps old one.mid one.row in
     let first : lines_by stays lines_seen from ps ≡ notes watch (events_of ps) =
     ap (λ (o : Notes). lines_by stays lines_seen o ps) is ∙ sym r.lines_are in
     let more : lines_by stays lines_seen from (ps ++ p ∷ []) ≡ notes watch (events_of ps ++ p.seen) =

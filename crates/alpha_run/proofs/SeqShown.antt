@@ -16,9 +16,9 @@ use Rattle.alpha_seq.specs.Devices.{Drawn}
 use Rattle.alpha_seq.specs.Fronts.{IsFront}
 use Rattle.alpha_seq.proofs.RunsOverInput.{after-over}
 use Rattle.alpha_seq.proofs.RunSteps.{WritesBetween-prefix}
-use Rattle.alpha_seq.proofs.Sequence.{Runs-append, Fed-append, fed-after, cut-front, Runs-Filled}
+use Rattle.alpha_seq.proofs.RunSequence.{Runs-append, Fed-append, fed-after, cut-front, Runs-Filled}
 use Rattle.alpha_run.specs.SeqRun.{ended_by, SeqRan, SeqPrefixRun}
-use Rattle.alpha_run.proofs.Rows.{output-append}
+use Rattle.alpha_run.proofs.StepRows.{output-append}
 use Rattle.alpha_run.proofs.SeqRuns.{end_of-going, step_is}
 
 pub notes-append : (watch : Bool) (xs ys : List Event) → notes watch (xs ++ ys) ≡ notes watch xs ++ notes watch ys

@@ -32,7 +32,7 @@ use Rattle.alpha_values.specs.Op.{result_of}
 use Rattle.alpha_values.specs.Outcome.{outcome_of}
 use Rattle.alpha_values.specs.Cond.{is_taken}
 use Rattle.alpha_values.specs.Address.{access_address}
-use Rattle.alpha_values.proofs.Words.{register_is}
+use Rattle.alpha_values.proofs.MachineWords.{register_is}
 use Rattle.alpha_values.proofs.LawLemmas.{completed-wrap, completed-exact}
 use Rattle.alpha_mem.specs.Intent.{Load, Store}
 use Rattle.alpha_mem.specs.Block.{Block, shapes}
@@ -40,16 +40,16 @@ use Rattle.alpha_mem.specs.Fault.{fault_of}
 use Rattle.alpha_mem.specs.Memory.{bytes_at, write_bytes}
 use Rattle.alpha_mem.specs.declared.access.MemFault.{MemFault}
 use Rattle.alpha_image.specs.Parts.{Parts, IsImage, place_of}
-use Rattle.alpha_image.proofs.Places.{place_of-code}
+use Rattle.alpha_image.proofs.CodePlaces.{place_of-code}
 use Rattle.alpha_table.proofs.CodeWords.{decoded_there, class_at-decoded_word}
 use Rattle.alpha_seq.specs.declared.machine.Machine.{Machine}
 use Rattle.alpha_seq.specs.State.{State, Went, Stepped, stepped}
-use Rattle.alpha_seq.specs.Step.{next_pc, setting, unless, loaded, computed, branch_target}
+use Rattle.alpha_seq.specs.Step.{next_pc, setting, unless, loaded, lda_value, branch_target}
 use Rattle.alpha_seq.specs.Machine.{state_of}
 use Rattle.alpha_seq.specs.Machine as of_machine
 use Rattle.alpha_seq.specs.Executed.{ExecutesWord, Retires, filled}
 use Rattle.alpha_seq.specs.FastSteps.{FastSteps, machine_at, ExecutesFast, RunsFast}
-use Rattle.alpha_seq.proofs.Loaded.{loaded_is}
+use Rattle.alpha_seq.proofs.LoadedValues.{loaded_is}
 
 -- ---- addresses of places
 
@@ -169,13 +169,13 @@ ExecutesFast-operate level op ra src rc regs mem place value image is levels =
 
 pub ExecutesFast-address : (op : MemOp) (ra rb : ℕ) (disp : ℤ) (regs : List ℕ) (mem : List Block) (place : ℕ)
     (image : Parts)
-    → ExecutesFast image (address op ra rb disp) regs mem place (put regs ra (computed op (reg regs rb) disp)) mem
+    → ExecutesFast image (address op ra rb disp) regs mem place (put regs ra (lda_value op (reg regs rb) disp)) mem
     ((place + 1) % 2 ^ 64)
 ExecutesFast-address op ra rb disp regs mem place image = record {
   does = λ m same. record {
     is = λ input.
         let s = state_of (machine_at m regs mem place) in
-        ap (fast_step s (put regs ra (computed op (reg regs rb) disp)) mem) (next_place m.image.code_base place);
+        ap (fast_step s (put regs ra (lda_value op (reg regs rb) disp)) mem) (next_place m.image.code_base place);
     program = refl;
     kernel = refl;
   };

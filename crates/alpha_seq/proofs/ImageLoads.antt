@@ -19,7 +19,7 @@ use Rattle.alpha_image.specs.Layout.{longword, filled_size}
 use Rattle.alpha_image.specs.Rules.{Holds, AreApart, code_segment, stack_segment, size_of_segment}
 use Rattle.alpha_image.specs.Parts.{Parts, Piece, IsImage, numbers, pieces, pieces_of}
 use Rattle.alpha_image.proofs.CodeWords.{length-flat_map_longword}
-use Rattle.alpha_image.proofs.Pieces.{length-pieces_of, piece_within}
+use Rattle.alpha_image.proofs.SegmentShares.{length-pieces_of, piece_within}
 use Rattle.alpha_seq.specs.State.{State}
 use Rattle.alpha_seq.specs.Start.{stack_end, start_memory, start_regs, start}
 use Rattle.alpha_seq.specs.StartMemory.{code_block, segment_block, stack_block, memory_before}
@@ -145,12 +145,12 @@ filled_more : (s : Segment) (rest : List Segment) (n : ℕ)
 filled_more s rest n = filled_size-cons s (take n rest)
 
 -- the share of a segment
-abbrev share : List Segment → List ℕ → ℕ → Segment → Piece
-share segments bytes n s =
+abbrev segment_piece : List Segment → List ℕ → ℕ → Segment → Piece
+segment_piece segments bytes n s =
     record { base = s.base; bytes = take s.filled (drop (filled_size (take n segments)) bytes); zeroed = s.zeroed }
 
 piece_at : (segments : List Segment) (bytes : List ℕ) (n : ℕ) (s : Segment) → slice_get segments n ≡ Some s
-    → slice_get (pieces_of segments bytes) n ≡ Some (share segments bytes n s)
+    → slice_get (pieces_of segments bytes) n ≡ Some (segment_piece segments bytes n s)
 piece_at [] bytes n s e = absurd cc
 piece_at (t ∷ rest) bytes zero s e =
     let same : t ≡ s = cc in

@@ -31,23 +31,24 @@ pub record StepRequests (f : List ℕ → Stepped) : Type 0 where
   pub gives : (input : List ℕ) → given (f input).event ≡ take count input
 
 -- one that passes nothing
-silent : (t : Stepped) → traffic_of t.event ≡ Silent → StepRequests (λ input. t)
-silent t quiet =
+StepRequests-silent : (t : Stepped) → traffic_of t.event ≡ Silent → StepRequests (λ input. t)
+StepRequests-silent t quiet =
     record { count = 0; only = λ input. refl; asks = λ input. ap asked_in quiet; gives = λ input. ap given_in quiet }
 
-either : (b : Bool) (f h : List ℕ → Stepped) → StepRequests f → StepRequests h
+StepRequests-cond : (b : Bool) (f h : List ℕ → Stepped) → StepRequests f → StepRequests h
     → StepRequests (λ input. cond b (f input) (h input))
-either true f h p q = p
-either false f h p q = q
+StepRequests-cond true f h p q = p
+StepRequests-cond false f h p q = q
 
-overflow : (completion : Completion) (s : State) (rc v : ℕ) → StepRequests (λ input. overflowed completion s rc v)
-overflow Wrap s rc v = silent _ refl
-overflow Saturate s rc v = silent _ refl
-overflow Stop s rc v = silent _ refl
+StepRequests-overflowed : (completion : Completion) (s : State) (rc v : ℕ)
+    → StepRequests (λ input. overflowed completion s rc v)
+StepRequests-overflowed Wrap s rc v = StepRequests-silent _ refl
+StepRequests-overflowed Saturate s rc v = StepRequests-silent _ refl
+StepRequests-overflowed Stop s rc v = StepRequests-silent _ refl
 
-access : (fault : Option MemFault) (addr : ℕ) (s t : State) → StepRequests (λ input. unless fault addr s t)
-access None addr s t = silent _ refl
-access (Some fault) addr s t = silent _ refl
+StepRequests-unless : (fault : Option MemFault) (addr : ℕ) (s t : State) → StepRequests (λ input. unless fault addr s t)
+StepRequests-unless None addr s t = StepRequests-silent _ refl
+StepRequests-unless (Some fault) addr s t = StepRequests-silent _ refl
 
 returned-traffic : (function : PalCall) (c : Called) (s : State)
     → traffic_of (returned function c s).event ≡ passed_in c
@@ -71,26 +72,27 @@ abbrev fault_at : Intent → MemAccess → State → Option MemFault
 fault_at intent at s = fault_of (shapes s.mem) intent (accessed at s) at.bytes
 
 pub step-asks : (g : Program) (class : Option Class) (s : State) → StepRequests (step g class s)
-step-asks g None s = silent _ refl
-step-asks g (Some (operate op ra src rc)) s = silent _ refl
+step-asks g None s = StepRequests-silent _ refl
+step-asks g (Some (operate op ra src rc)) s = StepRequests-silent _ refl
 step-asks g (Some (trigger op ra src rc)) s =
-    either (overflow_of op _ _) _ _ (overflow g.completion s rc _) (silent _ refl)
-step-asks g (Some (address op ra rb disp)) s = silent _ refl
+    StepRequests-cond (overflow_of op _ _) _ _ (StepRequests-overflowed g.completion s rc _)
+    (StepRequests-silent _ refl)
+step-asks g (Some (address op ra rb disp)) s = StepRequests-silent _ refl
 step-asks g (Some (load extension at ra)) s =
-    access (fault_at Load at s) (accessed at s) s (setting s ra (loaded extension at s))
+    StepRequests-unless (fault_at Load at s) (accessed at s) s (setting s ra (loaded extension at s))
 step-asks g (Some (store at ra)) s =
-    access (fault_at Store at s) (accessed at s) s (record (onward s) { mem = written_memory at ra s })
+    StepRequests-unless (fault_at Store at s) (accessed at s) s (record (onward s) { mem = written_memory at ra s })
 step-asks g (Some (load_locked extension at ra)) s =
-    access (fault_at Load at s) (accessed at s) s
+    StepRequests-unless (fault_at Load at s) (accessed at s) s
     (record (setting s ra (loaded extension at s)) { lock = Some (lock_block at s) })
 step-asks g (Some (store_conditional at ra)) s =
-    access (fault_at Store at s) (accessed at s) s (conditional (matches s.lock (lock_block at s)) at ra s)
-step-asks g (Some (branch None ra disp)) s = silent _ refl
-step-asks g (Some (branch (Some c) ra disp)) s = silent _ refl
-step-asks g (Some (jump ra rb)) s = silent _ refl
-step-asks g (Some (barrier None)) s = silent _ refl
+    StepRequests-unless (fault_at Store at s) (accessed at s) s (conditional (matches s.lock (lock_block at s)) at ra s)
+step-asks g (Some (branch None ra disp)) s = StepRequests-silent _ refl
+step-asks g (Some (branch (Some c) ra disp)) s = StepRequests-silent _ refl
+step-asks g (Some (jump ra rb)) s = StepRequests-silent _ refl
+step-asks g (Some (barrier None)) s = StepRequests-silent _ refl
 step-asks g (Some (barrier (Some function))) s = each_call function s
-step-asks g (Some idle) s = silent _ refl
+step-asks g (Some idle) s = StepRequests-silent _ refl
 
 -- ---- a step by what its event was given
 

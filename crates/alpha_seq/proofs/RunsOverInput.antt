@@ -4,7 +4,7 @@ use Rattle.std.proofs.Common.{◌≡◌, ◌∙◌, ◌<◌, ◌≤◌, ℕ, zer
 use Rattle.std.proofs.Math.Nat.{eq-or-lt_of_le}
 use Rattle.alpha_seq.specs.State.{Program, State}
 use Rattle.alpha_seq.specs.Run.{Run, after, advance, is_over}
-use Rattle.alpha_seq.proofs.Sequence.{advance-over, after-fed}
+use Rattle.alpha_seq.proofs.RunSequence.{advance-over, after-fed}
 
 -- a run that is over stays
 pub after-over : (g : Program) (s : State) (input : List ℕ) (m n : ℕ) → n ≤ m

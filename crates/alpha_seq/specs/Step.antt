@@ -84,9 +84,9 @@ trap completion op a b rc s =
 -- ---- addresses and accesses
 
 -- what LDA and LDAH compute
-abbrev pub computed : MemOp → ℕ → ℤ → ℕ
-computed Ldah base disp = high_address_of base disp
-computed _ base disp = address_of base disp
+abbrev pub lda_value : MemOp → ℕ → ℤ → ℕ
+lda_value Ldah base disp = high_address_of base disp
+lda_value _ base disp = address_of base disp
 
 -- the address of an access
 abbrev pub accessed : MemAccess → State → ℕ
@@ -170,7 +170,7 @@ step g None s input = ended s (ends.Fetch s.pc)
 step g (Some (operate op ra src rc)) s input =
     went (setting s rc (result_of g.image.level op (reg s.regs ra) (source_value s.regs src) (reg s.regs rc)))
 step g (Some (trigger op ra src rc)) s input = trap g.completion op (reg s.regs ra) (source_value s.regs src) rc s
-step g (Some (address op ra rb disp)) s input = went (setting s ra (computed op (reg s.regs rb) disp))
+step g (Some (address op ra rb disp)) s input = went (setting s ra (lda_value op (reg s.regs rb) disp))
 step g (Some (load extension at ra)) s input = accessing Load at s (setting s ra (loaded extension at s))
 step g (Some (store at ra)) s input = accessing Store at s (record (onward s) { mem = written_memory at ra s })
 step g (Some (load_locked extension at ra)) s input =

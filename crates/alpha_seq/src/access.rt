@@ -160,7 +160,7 @@ impl Machine {
     }
 
     // What a load from an address puts into its register.
-    #[tactic(auto, using(crate::proofs::Loaded::loaded_is))]
+    #[tactic(auto, using(crate::proofs::LoadedValues::loaded_is))]
     #[inline(always)]
     fn read(&self, extension: Extension, at: &MemAccess, addr: u64) -> Result<u64, MemFault>
         requires size { IsSized at.now.bytes }
@@ -170,7 +170,7 @@ impl Machine {
         ensures ok { IfOk result (λ v. v ≡ loaded extension at.now (state_of self.now)) }
     {
         match self.memory.load(addr, size(at.bytes)) {
-            Ok(value) => Ok(extended(extension, value)),
+            Ok(value) => Ok(extend(extension, value)),
             Err(fault) => Err(fault),
         }
     }
@@ -217,18 +217,18 @@ pub(crate) fn fault_end(fault: MemFault, pc: u64, addr: u64) -> End
 
 // A number as a load fills its register with it. Longwords alone are extended with the sign.
 #[inline(always)]
-pub(crate) fn extended(extension: Extension, number: u64) -> u64
+pub(crate) fn extend(extension: Extension, number: u64) -> u64
     ensures { result ≡ filled extension number }
 {
     match extension {
         Extension::Zero => number,
-        Extension::Sign => sign_extended(number),
+        Extension::Sign => sign_extend(number),
     }
 }
 
 // The longword in the low 32 bits, extended with its sign.
 #[inline(always)]
-fn sign_extended(number: u64) -> u64
+fn sign_extend(number: u64) -> u64
     ensures { result ≡ register_of (signed w32 number) }
 {
     i64::from(((number & 0xffff_ffff) as u32).cast_signed()).cast_unsigned()

@@ -14,8 +14,8 @@ ghost use Rattle.alpha_seq.specs.Executed.{IsSized};
 ghost use Rattle.alpha_seq.specs.FastSteps.{FastSteps, RunsFast, ExecutesFast};
 
 use crate::Machine;
-use crate::access::{extended, memory_access, size};
-use crate::words::computed;
+use crate::access::{extend, memory_access, size};
+use crate::words::lda_value;
 use alpha_image::Image;
 use alpha_mem::Memory;
 use alpha_table::{BranchOp, Extension, Form, Insn, InsnKind, MemAccess, MemOp, Op, Src, kind};
@@ -242,7 +242,7 @@ fn load_address(op: MemOp, ra: Reg, rb: Reg, disp: i16, regs: &mut RegFile, plac
     ensures went { (image : Parts) (mem : List Block) → ExecutesFast image (address op ra rb disp)
         regs.old mem place.old regs.new mem place.new }
 {
-    let value = computed(op, regs.get(rb), disp);
+    let value = lda_value(op, regs.get(rb), disp);
     set(regs, place, ra, value);
     true
 }
@@ -267,9 +267,9 @@ fn load(
     ensures place { result ≡ false → place.new ≡ place.old }
 {
     let addr = access_address(at, regs.get(at.base));
-    match memory.load_near(region_hint, addr, size(at.bytes)) {
+    match memory.load_with_hint(region_hint, addr, size(at.bytes)) {
         Ok(value) => {
-            set(regs, place, ra, extended(extension, value));
+            set(regs, place, ra, extend(extension, value));
             true
         }
         Err(_) => false,
@@ -292,7 +292,7 @@ fn store(
     ensures place { result ≡ false → place.new ≡ place.old }
 {
     let addr = access_address(at, regs.get(at.base));
-    match memory.store_near(region_hint, addr, size(at.bytes), regs.get(ra)) {
+    match memory.store_with_hint(region_hint, addr, size(at.bytes), regs.get(ra)) {
         Ok(()) => {
             advance(place);
             true
@@ -311,12 +311,12 @@ fn branch(image: &Image, op: BranchOp, ra: Reg, disp: i32, regs: &mut RegFile, p
         None => {
             advance(place);
             regs.set(ra, address_of(image, *place));
-            *place = displaced(*place, disp);
+            *place = displace(*place, disp);
         }
         Some(condition) => {
             advance(place);
             if taken(condition, regs.get(ra)) {
-                *place = displaced(*place, disp);
+                *place = displace(*place, disp);
             }
         }
     }
@@ -353,7 +353,7 @@ fn advance(place: &mut u64)
 
 // The place so many words away.
 #[inline(always)]
-fn displaced(place: u64, disp: i32) -> u64
+fn displace(place: u64, disp: i32) -> u64
     ensures { result ≡ register_of (pos place +ℤ disp) }
 {
     place.wrapping_add_signed(i64::from(disp))

@@ -158,18 +158,18 @@ fn push_four(line: &mut Line, regs: &RegFile, first: u8)
     ensures state { line.new ≡ line.old ++ register_line regs.now first }
     ensures size { length (register_line regs.now first) ≡ 68 }
 {
-    line.push_hex(value(regs, first));
+    line.push_hex(register_value(regs, first));
     line.push(b" ");
-    line.push_hex(value(regs, first + 1));
+    line.push_hex(register_value(regs, first + 1));
     line.push(b" ");
-    line.push_hex(value(regs, first + 2));
+    line.push_hex(register_value(regs, first + 2));
     line.push(b" ");
-    line.push_hex(value(regs, first + 3));
+    line.push_hex(register_value(regs, first + 3));
     line.end();
 }
 
 // The value of the register with this number.
-fn value(regs: &RegFile, number: u8) -> u64
+fn register_value(regs: &RegFile, number: u8) -> u64
     requires { number < 32 }
     ensures { result ≡ reg regs.now number }
 {

@@ -6,7 +6,7 @@ ghost use Rattle.alpha_values.specs.Numbers.{register_of};
 ghost use Rattle.alpha_values.specs.Source.{source_value};
 ghost use Rattle.alpha_values.specs.TrapOp.{overflow_of, completed_of};
 ghost use Rattle.alpha_seq.specs.State.{Went};
-ghost use Rattle.alpha_seq.specs.Step.{computed};
+ghost use Rattle.alpha_seq.specs.Step.{lda_value};
 ghost use Rattle.alpha_seq.specs.Executed.{ExecutesWord, ExecuteEffect, logged_machine};
 
 use crate::{End, Event, Machine};
@@ -31,7 +31,7 @@ impl Machine {
     pub(crate) fn trigger(&mut self, op: TrapOp, ra: Reg, src: &Src, rc: Reg) -> Event
         ensures { ExecuteEffect result (trigger op ra src.now rc) self.old self.new }
     {
-        if self.exactly(op, ra, src, rc) {
+        if self.execute_unless_overflow(op, ra, src, rc) {
             return Event::Went;
         }
         let at = self.pc;
@@ -46,7 +46,7 @@ impl Machine {
 
     // Executes an instruction that may trap, if it doesn't overflow.
     #[inline(always)]
-    pub(crate) fn exactly(&mut self, op: TrapOp, ra: Reg, src: &Src, rc: Reg) -> bool
+    pub(crate) fn execute_unless_overflow(&mut self, op: TrapOp, ra: Reg, src: &Src, rc: Reg) -> bool
         ensures went { IsTrue result → ExecutesWord Went (trigger op ra src.now rc) self.old self.new }
         ensures stays { result ≡ false → self.new ≡ self.old }
         ensures overflows { result ≡ false
@@ -57,14 +57,14 @@ impl Machine {
         if overflows(op, a, b) {
             return false;
         }
-        let value = self.exact(op, a, b);
+        let value = self.exact_result(op, a, b);
         self.set(rc, value);
         true
     }
 
     // The result of an instruction that doesn't overflow: every completion has it.
     #[inline(always)]
-    fn exact(&self, op: TrapOp, a: u64, b: u64) -> u64
+    fn exact_result(&self, op: TrapOp, a: u64, b: u64) -> u64
         requires { overflow_of op a b ≡ false }
         ensures { result ≡ completed_of op a b self.now.completion }
     {
@@ -87,7 +87,7 @@ impl Machine {
     pub(crate) fn address(&mut self, op: MemOp, ra: Reg, rb: Reg, disp: i16)
         ensures { ExecutesWord Went (address op ra rb disp) self.old self.new }
     {
-        let value = computed(op, self.regs.get(rb), disp);
+        let value = lda_value(op, self.regs.get(rb), disp);
         self.set(ra, value);
     }
 
@@ -125,8 +125,8 @@ impl Machine {
 
 // What LDA and LDAH compute.
 #[inline(always)]
-pub(crate) fn computed(op: MemOp, base: u64, disp: i16) -> u64
-    ensures { result ≡ computed op base disp }
+pub(crate) fn lda_value(op: MemOp, base: u64, disp: i16) -> u64
+    ensures { result ≡ lda_value op base disp }
 {
     match op {
         MemOp::Ldah => high_address(base, disp),

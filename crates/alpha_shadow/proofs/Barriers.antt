@@ -8,15 +8,15 @@ use Rattle.alpha_shadow.specs.Code.{kind_at, SetIn}
 use Rattle.alpha_shadow.specs.Columns.{destination_of}
 use Rattle.alpha_shadow.specs.Window.{Summarizes, UsedIn, open_triggers}
 use Rattle.alpha_shadow.specs.Place.{IsLeastUpTo}
-use Rattle.alpha_shadow.proofs.Tables.{kind_within, no_access, no_set}
-use Rattle.alpha_shadow.proofs.Places.{zero_missing, lost_nothing, same_missing, WildBase-no_access, no_store}
-use Rattle.alpha_shadow.proofs.Places.{locked_missing}
-use Rattle.alpha_shadow.proofs.Places.{turn_missing}
-use Rattle.alpha_shadow.proofs.Long.{none_long}
-use Rattle.alpha_shadow.proofs.Steps.{nothing_yet, IsLeastUpTo-skip, open_next}
+use Rattle.alpha_shadow.proofs.WordColumns.{kind_within, no_access, no_set}
+use Rattle.alpha_shadow.proofs.BreakingTriggers.{zero_missing, lost_nothing, same_missing, WildBase-no_access, no_store}
+use Rattle.alpha_shadow.proofs.BreakingTriggers.{locked_missing}
+use Rattle.alpha_shadow.proofs.BreakingTriggers.{turn_missing}
+use Rattle.alpha_shadow.proofs.LongShadows.{none_long}
+use Rattle.alpha_shadow.proofs.LeastBrokenSteps.{nothing_yet, IsLeastUpTo-skip, open_next}
 use Rattle.alpha_shadow.proofs.Shadows.{open_triggers_next, no_triggers}
 use Rattle.alpha_shadow.proofs.OpenLoads.{no_loads}
-use Rattle.alpha_shadow.proofs.Ends.{ends_skip}
+use Rattle.alpha_shadow.proofs.LastPlaces.{ends_skip}
 
 pub breaks_nothing : (code : List ℕ) (at : ℕ) → kind_at code at ≡ Some kinds.Barrier → IsLeastUpTo code at 9 None
 breaks_nothing code at barrier =

@@ -15,12 +15,12 @@ use Rattle.alpha_shadow.specs.Broken.{IsBroken, IsAccepted}
 use Rattle.alpha_shadow.specs.Least.{IsLeastBroken, condition_number}
 use Rattle.alpha_shadow.specs.Window.{Summarizes, IsUnbroken, IsOpen, IsFirstThat, HasRoom, open_triggers, open_loads}
 use Rattle.alpha_shadow.specs.Place.{IsLeastUpTo}
-use Rattle.alpha_shadow.proofs.Tables.{kind_within, past_end}
+use Rattle.alpha_shadow.proofs.WordColumns.{kind_within, past_end}
 use Rattle.alpha_shadow.proofs.Shadows.{no_triggers, triggers_room, first_there}
 use Rattle.alpha_shadow.proofs.OpenLoads.{no_loads, loads_room}
-use Rattle.alpha_shadow.proofs.Places.{broken_open, open_broken}
-use Rattle.alpha_shadow.proofs.Long.{not_past}
-use Rattle.alpha_shadow.proofs.Steps.{number_bound}
+use Rattle.alpha_shadow.proofs.BreakingTriggers.{broken_open, open_broken}
+use Rattle.alpha_shadow.proofs.LongShadows.{not_past}
+use Rattle.alpha_shadow.proofs.LeastBrokenSteps.{number_bound}
 
 -- what was broken at no place before, nor at this one, is broken at no place before the next
 unbroken_more : (code : List ℕ) (at : ℕ) → IsUnbroken code at → ((p : ℕ) (c : Condition) → IsBroken code p at c → ⊥)
@@ -128,13 +128,14 @@ IsUnbroken-HasRoom_near code at first kind before none within k other o = ⊎_el
     absurd (none first Long (number_bound Long) (open_broken code first at Long o (e, within, λ b. other cc))))
     (cases_lt at (first + 1025))
 
-few : (code : List ℕ) (at : ℕ) (kind : InsnKind) → IsUnbroken code at → IsLeastUpTo code at 9 None → at < length code
+open_triggers-bound : (code : List ℕ) (at : ℕ) (kind : InsnKind) → IsUnbroken code at → IsLeastUpTo code at 9 None
+    → at < length code
     → kind_at code at ≡ Some kind → kind ≢ kinds.Barrier
     → (ts : List Trigger) → open_triggers code at ≡ ts
     → (length (open_triggers code at) < 1025) × (length (open_loads code at) < 1025)
-few code at kind before none within k other [] e =
+open_triggers-bound code at kind before none within k other [] e =
     (rw e (lit< tt), rw (no_loads code at e) (lit< tt))
-few code at kind before none within k other (t ∷ ts) e =
+open_triggers-bound code at kind before none within k other (t ∷ ts) e =
     let first : slice_get (open_triggers code at) 0 ≡ Some t = ap (λ l. slice_get l 0) e in
     let close = IsUnbroken-HasRoom_near code at t.place kind before none within k other (first_there code at t ts e) in
     let triggers = triggers_room code at t first in
@@ -147,9 +148,9 @@ pub IsUnbroken-HasRoom : (code : List ℕ) (at : ℕ) (w : Window) (kind : InsnK
     → HasRoom w kind
 IsUnbroken-HasRoom code at w kinds.Trigger s before none within k =
     subst (λ ts. length ts < 1025) (sym s.triggers)
-    (few code at kinds.Trigger before none within k (λ e. cc) (open_triggers code at) refl).0
+    (open_triggers-bound code at kinds.Trigger before none within k (λ e. cc) (open_triggers code at) refl).0
 IsUnbroken-HasRoom code at w kinds.Load s before none within k =
     subst (λ ls. length ls < 1025) (sym s.loads)
-    (few code at kinds.Load before none within k (λ e. cc) (open_triggers code at) refl).1
+    (open_triggers-bound code at kinds.Load before none within k (λ e. cc) (open_triggers code at) refl).1
 IsUnbroken-HasRoom code at w kinds.Plain s before none within k = tt
 IsUnbroken-HasRoom code at w kind s before none within k = tt

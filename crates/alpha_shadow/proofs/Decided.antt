@@ -17,9 +17,9 @@ use Rattle.alpha_shadow.specs.Code.{kind_at, destination_at, access_at, sets_at,
 use Rattle.alpha_shadow.specs.Broken.{Holds, IsBroken, IsAccepted}
 use Rattle.alpha_shadow.specs.Least.{IsLeastBroken, condition_number}
 use Rattle.alpha_shadow.specs.Reach.{reach_of, MayTouch}
-use Rattle.alpha_shadow.proofs.Conditions.{condition_of_number, condition_of_number-condition_number}
-use Rattle.alpha_shadow.proofs.Tables.{kind_within, past_end}
-use Rattle.alpha_shadow.proofs.Steps.{number_bound}
+use Rattle.alpha_shadow.proofs.ConditionNumbers.{condition_of_number, condition_of_number-condition_number}
+use Rattle.alpha_shadow.proofs.WordColumns.{kind_within, past_end}
+use Rattle.alpha_shadow.proofs.LeastBrokenSteps.{number_bound}
 
 -- a fact that holds, or doesn't
 abbrev pub Decided : Type 0 → Type 0
@@ -30,14 +30,14 @@ Decided-both (inl p) (inl q) = inl (p, q)
 Decided-both (inl p) (inr n) = inr (λ w. n w.1)
 Decided-both (inr n) q = inr (λ w. n w.0)
 
-either : {P Q : Type 0} → Decided P → Decided Q → Decided (P ⊎ Q)
-either (inl p) q = inl (inl p)
-either (inr n) (inl q) = inl (inr q)
-either (inr n) (inr m) = inr (λ w. ⊎_elim n m w)
+Decided-or : {P Q : Type 0} → Decided P → Decided Q → Decided (P ⊎ Q)
+Decided-or (inl p) q = inl (inl p)
+Decided-or (inr n) (inl q) = inl (inr q)
+Decided-or (inr n) (inr m) = inr (λ w. ⊎_elim n m w)
 
-opposite : {P : Type 0} → Decided P → Decided (P → ⊥)
-opposite (inl p) = inr (λ n. n p)
-opposite (inr n) = inl n
+Decided-not : {P : Type 0} → Decided P → Decided (P → ⊥)
+Decided-not (inl p) = inr (λ n. n p)
+Decided-not (inr n) = inl n
 
 -- what stands for a fact is decided with it
 Decided-equivalent : {P Q : Type 0} → (P → Q) → (Q → P) → Decided P → Decided Q
@@ -144,7 +144,7 @@ exposed_in code from to r = Decided-equivalent
     (λ h. (h.place, h.below, (h.above, (h.uses, h.unset))))
     (some_below (λ k. (from ≤ k) × (Uses code k r × (SetIn code from k r → ⊥)))
     (λ k. Decided-both (at_most from k)
-    (Decided-both (is_true (uses (class_at code k) r)) (opposite (set_in code from k r)))) to)
+    (Decided-both (is_true (uses (class_at code k) r)) (Decided-not (set_in code from k r)))) to)
 
 source_lost : (code : List ℕ) (trigger at : ℕ) → Decided (Holds code trigger at SourceLost)
 source_lost code trigger at = cases (sets_at code at) refl
@@ -160,7 +160,7 @@ less_signed : (a b : ℤ) → Decided (a <ℤ b)
 less_signed a b = by_lt_z a b (λ l. inl l) (λ l. inr (λ m. omega (arith, ints)))
 
 may_touch : (a b : MemAccess) → Decided (MayTouch (reach_of a) (reach_of b))
-may_touch a b = either (opposite (Decided-equal a.base b.base))
+may_touch a b = Decided-or (Decided-not (Decided-equal a.base b.base))
     (Decided-both (less_signed (bytes_spanned a).low (bytes_spanned b).high)
     (less_signed (bytes_spanned b).low (bytes_spanned a).high))
 
@@ -170,8 +170,8 @@ record Reaches (code : List ℕ) (place : ℕ) (store : MemAccess) : Type 0 wher
   accesses : access_at code place ≡ Some access
   meets : MayTouch (reach_of access) (reach_of store)
 
-reaches : (code : List ℕ) (place : ℕ) (store : MemAccess) → Decided (Reaches code place store)
-reaches code place store = cases (access_at code place) refl
+Decided-Reaches : (code : List ℕ) (place : ℕ) (store : MemAccess) → Decided (Reaches code place store)
+Decided-Reaches code place store = cases (access_at code place) refl
   where
     cases : (o : Option MemAccess) → access_at code place ≡ o → Decided (Reaches code place store)
     cases None e = inr (λ h. let a = h.accesses in cc)
@@ -200,7 +200,7 @@ load_then_store code trigger at = cases (access_at code at) refl
         (Decided-both (kind_is (kind_at code at) kinds.Store)
         (some_below (λ k. (trigger < k) × ((kind_at code k ≡ Some kinds.Load) × Reaches code k a))
         (λ k. Decided-both (Decided-less trigger k)
-        (Decided-both (kind_is (kind_at code k) kinds.Load) (reaches code k a))) at))
+        (Decided-both (kind_is (kind_at code k) kinds.Load) (Decided-Reaches code k a))) at))
 
 wild_base : (code : List ℕ) (trigger at : ℕ) → Decided (Holds code trigger at WildBase)
 wild_base code trigger at = Decided-both (Decided-less trigger at) (cases (access_at code at) refl)
@@ -213,14 +213,14 @@ wild_base code trigger at = Decided-both (Decided-less trigger at) (cases (acces
         (λ h. let b = h.1 in let same : h.0 ≡ a = cc in subst (λ x. SetIn code trigger at x.base) same h.2)
         (set_in code trigger at a.base)
 
-straight : (code : List ℕ) (from to : ℕ) → Decided (Straight code from to)
-straight code from to = Decided-equivalent
+Decided-Straight : (code : List ℕ) (from to : ℕ) → Decided (Straight code from to)
+Decided-Straight code from to = Decided-equivalent
     (λ none k above below. (λ b. none (k, below, (above, inl b)), λ t. none (k, below, (above, inr t))))
     (λ s w. ⊎_elim (s w.0 w.2.0 w.1).0 (s w.0 w.2.0 w.1).1 w.2.1)
-    (opposite
+    (Decided-not
     (some_below (λ k. (from ≤ k) × ((kind_at code k ≡ Some kinds.Barrier) ⊎ (kind_at code k ≡ Some kinds.Turn)))
     (λ k. Decided-both (at_most from k)
-    (either (kind_is (kind_at code k) kinds.Barrier) (kind_is (kind_at code k) kinds.Turn)))
+    (Decided-or (kind_is (kind_at code k) kinds.Barrier) (kind_is (kind_at code k) kinds.Turn)))
     to))
 
 Decided-Holds : (code : List ℕ) (trigger at : ℕ) (c : Condition) → Decided (Holds code trigger at c)
@@ -240,14 +240,14 @@ Decided-Holds code trigger at Open = Decided-equal at (length code)
 Decided-Holds code trigger at Long = Decided-equivalent
     (λ w. (w.0, w.1.0, w.1.1)) (λ w. (w.0, (w.1, w.2)))
     (Decided-both (Decided-equal at (trigger + 1025))
-    (Decided-both (Decided-less at (length code)) (opposite (kind_is (kind_at code at) kinds.Barrier))))
+    (Decided-both (Decided-less at (length code)) (Decided-not (kind_is (kind_at code at) kinds.Barrier))))
 
 pub IsBroken-decided : (code : List ℕ) (trigger at : ℕ) (c : Condition) → Decided (IsBroken code trigger at c)
 IsBroken-decided code trigger at c = Decided-equivalent
     (λ w. record { trigger_kind = w.0.0; order = w.0.1; straight = w.1.0; holds = w.1.1 })
     (λ b. ((b.trigger_kind, b.order), (b.straight, b.holds)))
     (Decided-both (Decided-both (kind_is (kind_at code trigger) kinds.Trigger) (at_most trigger at))
-    (Decided-both (straight code trigger at) (Decided-Holds code trigger at c)))
+    (Decided-both (Decided-Straight code trigger at) (Decided-Holds code trigger at c)))
 
 -- the least broken place
 
@@ -288,8 +288,8 @@ broken_by code trigger at n = Decided-equivalent
 abbrev BreaksAt : List ℕ → ℕ → ℕ → Type 0
 BreaksAt code at trigger = (n : ℕ) × (n < 10) × BrokenBy code trigger at n
 
-breaks : (code : List ℕ) (at trigger : ℕ) → Decided (BreaksAt code at trigger)
-breaks code at trigger = some_below (BrokenBy code trigger at) (broken_by code trigger at) 10
+Decided-BreaksAt : (code : List ℕ) (at trigger : ℕ) → Decided (BreaksAt code at trigger)
+Decided-BreaksAt code at trigger = some_below (BrokenBy code trigger at) (broken_by code trigger at) 10
 
 abbrev AnyBreaks : List ℕ → ℕ → Type 0
 AnyBreaks code at = (trigger : ℕ) × (trigger < at + 1) × BreaksAt code at trigger
@@ -344,9 +344,10 @@ accepted_or_broken code = ⊎_elim
     (λ none. let h = t.1.holds in absurd (none h.0 h.1 h.2))
     (least_below (BrokenBy code t.0 a.0) (broken_by code t.0 a.0) 10))
     (λ none. let h = a.1.holds in absurd (none h.0 h.1 h.2))
-    (least_below (BreaksAt code a.0) (breaks code a.0) (a.0 + 1)))
+    (least_below (BreaksAt code a.0) (Decided-BreaksAt code a.0) (a.0 + 1)))
     (λ none. inl (λ trigger at c b. ⊎_elim
     (λ (past : length code < at). not_past_end code trigger at c past b)
     (λ (within : at ≤ length code). none at (omega arith) (any_breaks code trigger at c b))
     (cases_lt (length code) at)))
-    (least_below (AnyBreaks code) (λ at. some_below (BreaksAt code at) (breaks code at) (at + 1)) (length code + 1))
+    (least_below (AnyBreaks code) (λ at. some_below (BreaksAt code at) (Decided-BreaksAt code at) (at + 1))
+    (length code + 1))

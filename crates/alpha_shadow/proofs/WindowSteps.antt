@@ -19,7 +19,7 @@ use Rattle.alpha_shadow.specs.Window.{open_loads}
 use Rattle.alpha_shadow.specs.Reach.{reach_of}
 use Rattle.alpha_shadow.proofs.Shadows.{open_triggers_next, no_triggers}
 use Rattle.alpha_shadow.proofs.OpenLoads.{open_loads_next, no_loads}
-use Rattle.alpha_shadow.proofs.Ends.{set_meets, used_meets, ends_next, ends_skip}
+use Rattle.alpha_shadow.proofs.LastPlaces.{set_meets, used_meets, ends_next, ends_skip}
 
 -- before the first word
 

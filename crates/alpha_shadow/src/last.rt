@@ -43,7 +43,7 @@ impl LastPlaces {
             → slice_index self.new.ends r ≡ slice_index self.old.ends r }
     {
         let mut rest = registers;
-        while let Some(r) = least(rest) {
+        while let Some(r) = least_register(rest) {
             self.note(r, place);
             rest = rest.without(r);
         }
@@ -51,7 +51,7 @@ impl LastPlaces {
 }
 
 // The least member.
-fn least(registers: RegSet) -> Option<Reg>
+fn least_register(registers: RegSet) -> Option<Reg>
     ensures found { IfSome result (Has registers) }
     ensures none { IfNone result ((r : ℕ) → ¬ Has registers r) }
 {

@@ -22,11 +22,12 @@
 //! verdict names, `fetch.rt` and `insn_code.rt` where the words come from, and `words.rt` the verdict on a slice of
 //! them.
 //!
-//! `proofs/Shadows.antt`, `OpenLoads.antt` and `Ends.antt` follow the open triggers, the open loads and the registers'
-//! places word by word; `Places.antt` ties each condition to them, `Steps.antt` joins the conditions,
-//! `WindowSteps.antt` and `CodeWalk.antt` make the walk, and `Decided.antt` has the laws. `Stretches.antt` goes over
-//! the words where no shadow is open, and `Alone.antt` has a trigger there. `Covers.antt` has what a cover of loads
-//! covers. `Tables.antt` alone looks into the instruction table, and `Barriers.antt` has what a barrier leaves.
+//! `proofs/Shadows.antt`, `OpenLoads.antt` and `LastPlaces.antt` follow the open triggers, the open loads and the
+//! registers' places word by word; `BreakingTriggers.antt` ties each condition to them, `LeastBrokenSteps.antt` joins
+//! the conditions, `WindowSteps.antt` and `CodeWalk.antt` make the walk, and `Decided.antt` has the laws.
+//! `NextTriggers.antt` goes over the words where no shadow is open, and `LoneTriggers.antt` has a trigger there.
+//! `Covers.antt` has what a cover of loads covers. `WordColumns.antt` alone looks into the instruction table, and
+//! `Barriers.antt` has what a barrier leaves.
 #![tactic(auto)]
 
 mod broken;

@@ -34,7 +34,7 @@ impl Reach {
     }
 
     // A reach around both, if they have one base.
-    fn joined(&self, other: &Reach) -> Option<Reach>
+    fn join(&self, other: &Reach) -> Option<Reach>
         ensures first { IfSome result (λ both. IsAround both self.now) }
         ensures second { IfSome result (λ both. IsAround both other.now) }
     {
@@ -149,6 +149,6 @@ impl Loads {
         if self.len == 0 {
             return Some(*load);
         }
-        self.cover?.joined(load)
+        self.cover?.join(load)
     }
 }

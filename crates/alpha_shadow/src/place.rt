@@ -30,7 +30,7 @@ pub(crate) fn broken_at(window: &Window, at: u32, word: &Columns) -> Option<Brok
         InsnKind::Turn => broken_by_turn(window, at, word),
         InsnKind::Load | InsnKind::Store | InsnKind::Locked => broken_by_access(window, at, word),
     };
-    lesser(found, at, Condition::Long, long(window, at))
+    lesser_broken(found, at, Condition::Long, long_shadow(window, at))
 }
 
 /// The least broken place at a trigger, where no shadow is open: it may break its own alone.
@@ -40,13 +40,13 @@ pub(crate) fn broken_alone(at: u32, word: &Columns) -> Option<Broken>
     ensures { (code : List ℕ) → open_triggers code at ≡ [] → HasColumns code at word.now
         → IsLeastUpTo code at 9 result }
 {
-    let found = lesser(
+    let found = lesser_broken(
         None,
         at,
         Condition::ZeroDestination,
         zero_destination(at, word),
     );
-    lesser(found, at, Condition::SourceLost, lost_at_once(at, word))
+    lesser_broken(found, at, Condition::SourceLost, source_lost_at_once(at, word))
 }
 
 // The least broken place at a trigger, but for C9.
@@ -55,20 +55,20 @@ fn broken_by_trigger(window: &Window, at: u32, word: &Columns) -> Option<Broken>
     ensures { (code : List ℕ) → Summarizes code window.now at → IsUnbroken code at
         → HasColumns code at word.now → IsLeastUpTo code at 8 result }
 {
-    let found = lesser(
+    let found = lesser_broken(
         None,
         at,
         Condition::ZeroDestination,
         zero_destination(at, word),
     );
-    let found = lesser(
+    let found = lesser_broken(
         found,
         at,
         Condition::SourceLost,
         source_lost(window, at, word),
     );
     let same = window.first_with_destination(word.destination());
-    lesser(found, at, Condition::SameDestination, same)
+    lesser_broken(found, at, Condition::SameDestination, same)
 }
 
 // The least broken place at a plain word.
@@ -87,7 +87,7 @@ fn broken_by_turn(window: &Window, at: u32, word: &Columns) -> Option<Broken>
         → HasColumns code at word.now → IsLeastUpTo code at 8 result }
 {
     let found = broken_by_set(window, at, word);
-    lesser(found, at, Condition::Turn, window.first())
+    lesser_broken(found, at, Condition::Turn, window.first())
 }
 
 // The least broken place at a word that makes an access.
@@ -98,14 +98,14 @@ fn broken_by_access(window: &Window, at: u32, word: &Columns) -> Option<Broken>
         → HasColumns code at word.now → IsLeastUpTo code at 8 result }
 {
     let found = broken_by_set(window, at, word);
-    let found = lesser(found, at, Condition::WildBase, wild_base(window, word));
-    let found = lesser(
+    let found = lesser_broken(found, at, Condition::WildBase, wild_base(window, word));
+    let found = lesser_broken(
         found,
         at,
         Condition::LoadThenStore,
         load_then_store(window, word),
     );
-    lesser(found, at, Condition::Locked, locked(window, word))
+    lesser_broken(found, at, Condition::Locked, locked_access(window, word))
 }
 
 // The least broken place under the first three conditions, at a word that is no trigger.
@@ -114,7 +114,7 @@ fn broken_by_set(window: &Window, at: u32, word: &Columns) -> Option<Broken>
     ensures { (code : List ℕ) → Summarizes code window.now at → IsUnbroken code at
         → HasColumns code at word.now → IsLeastUpTo code at 3 result }
 {
-    lesser(
+    lesser_broken(
         None,
         at,
         Condition::SourceLost,
@@ -123,7 +123,7 @@ fn broken_by_set(window: &Window, at: u32, word: &Columns) -> Option<Broken>
 }
 
 // The lesser of what was found and of the first trigger under the next condition.
-fn lesser(
+fn lesser_broken(
     found: Option<Broken>,
     at: u32,
     condition: Condition,
@@ -161,7 +161,7 @@ fn zero_destination(at: u32, word: &Columns) -> Option<u32>
 }
 
 // Where no shadow is open, a trigger loses a source only by setting it.
-fn lost_at_once(at: u32, word: &Columns) -> Option<u32>
+fn source_lost_at_once(at: u32, word: &Columns) -> Option<u32>
     requires { word.now.kind ≡ kinds.Trigger }
     ensures { (code : List ℕ) → open_triggers code at ≡ [] → HasColumns code at word.now
         → IsFirstBroken code at Condition.SourceLost result }
@@ -214,7 +214,7 @@ fn load_then_store(window: &Window, word: &Columns) -> Option<u32>
     }
 }
 
-fn locked(window: &Window, word: &Columns) -> Option<u32>
+fn locked_access(window: &Window, word: &Columns) -> Option<u32>
     ensures { (code : List ℕ) (at : ℕ) → Summarizes code window.now at → HasColumns code at word.now
         → IsFirstBroken code at Condition.Locked result }
 {
@@ -225,7 +225,7 @@ fn locked(window: &Window, word: &Columns) -> Option<u32>
     }
 }
 
-fn long(window: &Window, at: u32) -> Option<u32>
+fn long_shadow(window: &Window, at: u32) -> Option<u32>
     ensures { (code : List ℕ) → Summarizes code window.now at → IsUnbroken code at
         → at < length code → kind_at code at ≢ Some kinds.Barrier
         → IsFirstBroken code at Condition.Long result }

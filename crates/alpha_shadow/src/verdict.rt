@@ -71,7 +71,7 @@ fn judge_by<F: Fetch>(window: &mut Window, code: &mut F) -> Result<(), Broken>
         let Some(next) = code.next_trigger(at) else {
             return Ok(());
         };
-        if let Some(broken) = begun(window, &next) {
+        if let Some(broken) = open_shadow(window, &next) {
             return Err(broken);
         }
         for place in next.place + 1..words {
@@ -100,7 +100,7 @@ fn judge_by<F: Fetch>(window: &mut Window, code: &mut F) -> Result<(), Broken>
 
 // Opens the shadow of a trigger, where none is open, unless the trigger itself breaks it.
 #[inline(always)]
-fn begun(window: &mut Window, next: &NextTrigger) -> Option<Broken>
+fn open_shadow(window: &mut Window, next: &NextTrigger) -> Option<Broken>
     requires none { window.old.triggers.items ≡ [] }
     requires bound { next.now.place < 2 ^ 32 - 1 }
     requires trigger { kind_of next.now.insn ≡ kinds.Trigger }

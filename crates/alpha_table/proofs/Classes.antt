@@ -91,19 +91,21 @@ jump_same w =
 
 -- ---- operate instructions
 
-key : Bool → Bool → Bool → Bool → Bool → ℕ → Bool
-key a b c d e n = cond (n == 0x10) a (cond (n == 0x11) b (cond (n == 0x12) c (cond (n == 0x13) d e)))
+choice_by_opcode : Bool → Bool → Bool → Bool → Bool → ℕ → Bool
+choice_by_opcode a b c d e n = cond (n == 0x10) a (cond (n == 0x11) b (cond (n == 0x12) c (cond (n == 0x13) d e)))
 
-pick : Bool → Bool → Bool → Bool → Bool → ℕ → Option Op
-pick a b c d e f = find (λ op. key a b c d e (op_row op).opcode && (op_row op).function == f) every_op
+op_by_choices : Bool → Bool → Bool → Bool → Bool → ℕ → Option Op
+op_by_choices a b c d e f =
+    find (λ op. choice_by_opcode a b c d e (op_row op).opcode && (op_row op).function == f) every_op
 
-picked : (o f : ℕ) → operate_at o f ≡ pick (0x10 == o) (0x11 == o) (0x12 == o) (0x13 == o) (0x1c == o) f
-unfolding pick key
-picked o f = refl
+operate_at-op_by_choices : (o f : ℕ)
+    → operate_at o f ≡ op_by_choices (0x10 == o) (0x11 == o) (0x12 == o) (0x13 == o) (0x1c == o) f
+unfolding op_by_choices choice_by_opcode
+operate_at-op_by_choices o f = refl
 
 picked_none : (a b c d e : Bool) (f : ℕ) → a ≡ false → b ≡ false → c ≡ false → d ≡ false → e ≡ false
-    → pick a b c d e f ≡ None
-unfolding pick key
+    → op_by_choices a b c d e f ≡ None
+unfolding op_by_choices choice_by_opcode
 picked_none false false false false false f ha hb hc hd he = refl
 picked_none true b c d e f ha hb hc hd he = cc
 picked_none false true c d e f ha hb hc hd he = cc
@@ -128,7 +130,8 @@ row_under-operate_at o f = by0 (0x10 == o) refl
     by4 true e ha hb hc hd = subst (IsFound f) (eqb-true 0x1c o e) refl
     by4 false e ha hb hc hd =
         ap (option_and_then (row_under f)) (nested_none o ha hb hc hd e)
-        ∙ sym (picked o f ∙ picked_none (0x10 == o) (0x11 == o) (0x12 == o) (0x13 == o) (0x1c == o) f ha hb hc hd e)
+        ∙ sym (operate_at-op_by_choices o f
+        ∙ picked_none (0x10 == o) (0x11 == o) (0x12 == o) (0x13 == o) (0x1c == o) f ha hb hc hd e)
 
     by3 : (b : Bool) → (0x13 == o) ≡ b → (0x10 == o) ≡ false → (0x11 == o) ≡ false → (0x12 == o) ≡ false
         → option_and_then (row_under f) (row_under o operate_tables) ≡ operate_at o f

@@ -37,9 +37,9 @@ use Rattle.alpha_table.proofs.Lookups.{pal_known, memory_at-branch, memory_at-op
 use Rattle.alpha_table.proofs.Lookups.{is_operate-row, opcode-operate, opcode-memory, opcode-branch}
 
 -- what is found passes the test
-find_passes : {X : Type 0} (p : X → Bool) (xs : List X) (x : X) → find p xs ≡ Some x → p x ≡ true
-find_passes p [] x h = cc
-find_passes p (y ∷ ys) x h = cases (p y) refl h (find_passes p ys x)
+find-passes : {X : Type 0} (p : X → Bool) (xs : List X) (x : X) → find p xs ≡ Some x → p x ≡ true
+find-passes p [] x h = cc
+find-passes p (y ∷ ys) x h = cases (p y) refl h (find-passes p ys x)
   where
     cases : (b : Bool) → p y ≡ b → cond b (Some y) (find p ys) ≡ Some x → (find p ys ≡ Some x → p x ≡ true) → p x ≡ true
     cases true e h later = let same : y ≡ x = cc in subst (λ z. p z ≡ true) same e
@@ -48,7 +48,7 @@ find_passes p (y ∷ ys) x h = cases (p y) refl h (find_passes p ys x)
 -- the row that is found has the number
 found_by : {R : Type 0} (number : R → ℕ) (rows : List R) (n : ℕ) (r : R) → find (λ row. number row == n) rows ≡ Some r
     → number r ≡ n
-found_by number rows n r h = eqb-true (number r) n (find_passes (λ row. number row == n) rows r h)
+found_by number rows n r h = eqb-true (number r) n (find-passes (λ row. number row == n) rows r h)
 
 option_map_some : {A B : Type 0} (f : A → B) (o : Option A) (y : B) → option_map f o ≡ Some y
     → (x : A) × (o ≡ Some x) × (f x ≡ y)
@@ -299,7 +299,7 @@ found_operate : (opcode function : ℕ) (op : Op) → operate_at opcode function
     → ((op_row op).opcode ≡ opcode) × ((op_row op).function ≡ function)
 found_operate opcode function op h =
     let passes =
-    find_passes (λ row. (op_row row).opcode == opcode && (op_row row).function == function) every_op op h in
+    find-passes (λ row. (op_row row).opcode == opcode && (op_row row).function == function) every_op op h in
     let b = and_parts ((op_row op).opcode == opcode) ((op_row op).function == function) passes in
     (eqb-true (op_row op).opcode opcode b.0, eqb-true (op_row op).function function b.1)
 

@@ -1,9 +1,9 @@
 pub mod Lookups
 pub mod DecodedInsns
-pub mod Words
+pub mod InsnWords
 pub mod NameSearches
-pub mod Forms
-pub mod Tables
+pub mod InsnForms
+pub mod OpcodeTables
 pub mod Classes
 pub mod CodeWords
 pub mod Levels

@@ -149,8 +149,8 @@ opcode-operate row =
     (omega arith, omega arith, λ h. omega arith) (omega arith, omega arith, λ h. omega arith)
     (omega arith, omega arith, λ h. omega arith) (omega arith, omega arith, λ h. omega arith) (is_operate-row row)
 
-within : (low high o : ℕ) → (nat_lt low o && nat_lt o high) ≡ true → (low < o) × (o < high)
-within low high o h =
+nat_lt-between : (low high o : ℕ) → (nat_lt low o && nat_lt o high) ≡ true → (low < o) × (o < high)
+nat_lt-between low high o h =
     let parts = and_parts (nat_lt low o) (nat_lt o high) h in
     (ltb-true low o parts.0, ltb-true o high parts.1)
 
@@ -162,12 +162,12 @@ opcode-memory row = either (nat_lt 0x07 o && nat_lt o 0x10) refl (memory_known r
 
     either : (t : Bool) → (nat_lt 0x07 o && nat_lt o 0x10) ≡ t → (t || (nat_lt 0x27 o && nat_lt o 0x30)) ≡ true
         → IsMemoryOpcode o
-    either true e h = let lies = within 0x07 0x10 o e in (omega arith, omega arith, λ above. omega arith)
-    either false e h = let lies = within 0x27 0x30 o h in (omega arith, omega arith, λ above. omega arith)
+    either true e h = let lies = nat_lt-between 0x07 0x10 o e in (omega arith, omega arith, λ above. omega arith)
+    either false e h = let lies = nat_lt-between 0x27 0x30 o h in (omega arith, omega arith, λ above. omega arith)
 
 pub opcode-branch : (row : BranchOp) → IsBranchOpcode (branch_row row).opcode
 opcode-branch row =
-    let lies = within 0x2f 0x40 (branch_row row).opcode (branch_known row).1 in
+    let lies = nat_lt-between 0x2f 0x40 (branch_row row).opcode (branch_known row).1 in
     (omega arith, omega arith)
 
 pub memory_at-branch : (row : BranchOp) → memory_at (branch_row row).opcode ≡ None

@@ -14,7 +14,7 @@ use Rattle.alpha_table.specs.Op.{op_row}
 use Rattle.alpha_table.specs.Class.{Class, trigger}
 use Rattle.alpha_table.specs.ClassOf.{class_of}
 use Rattle.alpha_table.specs.Code.{class_kind}
-use Rattle.alpha_table.specs.Uses.{sources, written, counts, but_zero, class_access}
+use Rattle.alpha_table.specs.Uses.{sources, written_register, counts, but_zero, class_access}
 use Rattle.alpha_table.specs.Spans.{bytes_spanned}
 
 -- whether an instruction uses a register
@@ -23,7 +23,7 @@ uses_of i r = counts (sources (class_of i)) r
 
 -- the register that an instruction sets
 abbrev pub sets_of : Form → Option ℕ
-sets_of i = but_zero (written (class_of i))
+sets_of i = but_zero (written_register (class_of i))
 
 abbrev pub kind_of : Form → InsnKind
 kind_of i = class_kind (class_of i)

@@ -43,16 +43,16 @@ sources (jump ra rb) = rb ∷ []
 sources class = []
 
 -- the register that a class writes
-abbrev pub written : Class → Option ℕ
-written (operate op ra src rc) = Some rc
-written (trigger op ra src rc) = Some rc
-written (address op ra rb disp) = Some ra
-written (load extension at ra) = Some ra
-written (load_locked extension at ra) = Some ra
-written (store_conditional at ra) = Some ra
-written (branch None ra disp) = Some ra
-written (jump ra rb) = Some ra
-written class = None
+abbrev pub written_register : Class → Option ℕ
+written_register (operate op ra src rc) = Some rc
+written_register (trigger op ra src rc) = Some rc
+written_register (address op ra rb disp) = Some ra
+written_register (load extension at ra) = Some ra
+written_register (load_locked extension at ra) = Some ra
+written_register (store_conditional at ra) = Some ra
+written_register (branch None ra disp) = Some ra
+written_register (jump ra rb) = Some ra
+written_register class = None
 
 -- a register that counts
 abbrev pub but_zero : Option ℕ → Option ℕ
@@ -69,7 +69,7 @@ uses c r = option_map_or (λ class. counts (sources class) r) c false
 
 -- the register that it sets, which never is 31
 abbrev pub sets : Option Class → Option ℕ
-sets c = option_and_then (λ class. but_zero (written class)) c
+sets c = option_and_then (λ class. but_zero (written_register class)) c
 
 abbrev pub class_access : Class → Option MemAccess
 class_access (load extension at ra) = Some at

@@ -31,7 +31,7 @@ fn has_source(w: Word) -> bool
 }
 
 // The row of an operate word whose operands not all words of the row have.
-fn ruled(op: Op, w: Word) -> Option<InsnRow>
+fn row_under_rule(op: Op, w: Word) -> Option<InsnRow>
     requires { IsTrue (is_at (field 31 26 w.0) (field 11 5 w.0) op) }
     ensures found { IfSome result (λ row. Decodes row w.0) }
     ensures none { IfNone result ((i : _) → Row w.0 i → ⊥) }
@@ -80,7 +80,7 @@ fn pal(w: Word) -> Option<InsnRow>
 
 // The row of a word whose opcode has a format of its own, or which no row has.
 #[inline(always)]
-fn other(w: Word) -> Option<InsnRow>
+fn row_by_opcode(w: Word) -> Option<InsnRow>
     requires { IsTrue (matches_row (field 31 26 w.0) (field 11 5 w.0) Other) }
     ensures found { IfSome result (λ row. Decodes row w.0) }
     ensures none { IfNone result ((i : _) → Row w.0 i → ⊥) }
@@ -102,9 +102,9 @@ fn row_by_rest(row: InsnRow, w: Word) -> Option<InsnRow>
     ensures none { IfNone result ((i : _) → Row w.0 i → ⊥) }
 {
     match row {
-        InsnRow::Ruled(op) => ruled(op, w),
-        InsnRow::Other => other(w),
-        InsnRow::Operate(op) => ruled(op, w),
+        InsnRow::Ruled(op) => row_under_rule(op, w),
+        InsnRow::Other => row_by_opcode(w),
+        InsnRow::Operate(op) => row_under_rule(op, w),
         InsnRow::Mem(_)
         | InsnRow::Branch(_)
         | InsnRow::Jump
@@ -119,13 +119,13 @@ fn row_by_rest(row: InsnRow, w: Word) -> Option<InsnRow>
 // word. Barriers and PALcode calls, the least rare of them, are told apart first.
 #[cold]
 #[inline(never)]
-fn rare(row: InsnRow, w: Word) -> InsnRow
+fn row_or_other(row: InsnRow, w: Word) -> InsnRow
     requires { IsTrue (matches_row (field 31 26 w.0) (field 11 5 w.0) row) }
     ensures found { (result ≡ Other → ⊥) → Decodes result w.0 }
     ensures none { result ≡ Other → (i : _) → Row w.0 i → ⊥ }
 {
     match row {
-        InsnRow::Other => match other(w) {
+        InsnRow::Other => match row_by_opcode(w) {
             Some(told) => told,
             None => InsnRow::Other,
         },
@@ -157,7 +157,7 @@ fn insn_by(row: InsnRow, w: Word) -> Option<Insn>
         | InsnRow::Misc(_)
         | InsnRow::Fetch { .. }
         | InsnRow::Pal(_) => Some(Insn::at(row, w)),
-        InsnRow::Ruled(_) | InsnRow::Other => match rare(row, w) {
+        InsnRow::Ruled(_) | InsnRow::Other => match row_or_other(row, w) {
             InsnRow::Other => None,
             told => Some(Insn::at(told, w)),
         },

@@ -27,12 +27,12 @@ pub(crate) fn word_of(form: &Form) -> u32
         Form::Mem { op, ra, rb, disp } => memory(op, ra, rb, disp),
         Form::Branch { op, ra, disp } => branch(op, ra, disp),
         Form::Jump { kind, ra, rb, hint } => {
-            high(0x1a, ra, rb) + (u32::from(kind.kind()) << 14) + u32::from(hint)
+            high_fields(0x1a, ra, rb) + (u32::from(kind.kind()) << 14) + u32::from(hint)
         }
         Form::Operate { op, ra, src, rc } => operate(op, ra, &src, rc),
-        Form::Misc(op) => high(0x18, Reg::ZERO, Reg::ZERO) + u32::from(op.row().function),
+        Form::Misc(op) => high_fields(0x18, Reg::ZERO, Reg::ZERO) + u32::from(op.row().function),
         Form::Fetch { modify, rb } => {
-            high(0x18, Reg::ZERO, rb) + u32::from(fetch_function(modify))
+            high_fields(0x18, Reg::ZERO, rb) + u32::from(fetch_function(modify))
         }
         Form::Pal(call) => pal_function(call),
     }
@@ -43,7 +43,7 @@ pub(crate) fn word_of(form: &Form) -> u32
 pub(crate) fn memory(op: MemOp, ra: Reg, rb: Reg, disp: i16) -> u32
     ensures { Row result (Mem op ra rb disp) }
 {
-    high(op.row().opcode, ra, rb) + u32::from(disp.cast_unsigned())
+    high_fields(op.row().opcode, ra, rb) + u32::from(disp.cast_unsigned())
 }
 
 // A branch displacement as an unsigned field of 21 bits.
@@ -86,7 +86,7 @@ pub(crate) fn operate(op: Op, ra: Reg, src: &Src, rc: Reg) -> u32
 
 // The fields from bit 16 on: an opcode and two registers.
 #[inline(always)]
-fn high(opcode: u8, ra: Reg, rb: Reg) -> u32
+fn high_fields(opcode: u8, ra: Reg, rb: Reg) -> u32
     requires { opcode < 64 }
     ensures { result ≡ opcode * 2 ^ 26 + ra * 2 ^ 21 + rb * 2 ^ 16 }
 {

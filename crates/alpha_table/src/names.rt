@@ -68,30 +68,30 @@ impl Mnemonic {
         ensures found { IfSome result (λ m. name_of m ≡ name.now) }
         ensures none { IfNone result ((m : _) → name_of m ≢ name.now) }
     {
-        if let Some(found) = named(&OPERATES, name) {
+        if let Some(found) = find_name(&OPERATES, name) {
             return Some(found);
         }
-        if let Some(found) = named(&MEMORIES, name) {
+        if let Some(found) = find_name(&MEMORIES, name) {
             return Some(found);
         }
-        if let Some(found) = named(&BRANCHES, name) {
+        if let Some(found) = find_name(&BRANCHES, name) {
             return Some(found);
         }
-        if let Some(found) = named(&JUMPS, name) {
+        if let Some(found) = find_name(&JUMPS, name) {
             return Some(found);
         }
-        if let Some(found) = named(&MISCS, name) {
+        if let Some(found) = find_name(&MISCS, name) {
             return Some(found);
         }
-        if let Some(found) = named(&FETCHES, name) {
+        if let Some(found) = find_name(&FETCHES, name) {
             return Some(found);
         }
-        named(&PAL_CALLS, name)
+        find_name(&PAL_CALLS, name)
     }
 }
 
 // The one of these rows, in the order of their names, that has the name.
-fn named(rows: &[Mnemonic], name: &[u8]) -> Option<Mnemonic>
+fn find_name(rows: &[Mnemonic], name: &[u8]) -> Option<Mnemonic>
     requires { IsTrue (ascends rows.now) }
     ensures found { IfSome result (λ m. name_of m ≡ name.now) }
     ensures none { IfNone result (All (λ m. name_of m ≢ name.now) rows.now) }

@@ -262,7 +262,7 @@ fn tricked(
         swaps: &swaps,
     };
     let mut shelf = if spares_streams {
-        DiskShelf::sparing_streams(files)
+        DiskShelf::with_stream_guard(files)
     } else {
         DiskShelf::new(files)
     };

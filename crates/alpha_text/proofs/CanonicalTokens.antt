@@ -158,9 +158,9 @@ is_word (b ∷ ds) = is_ascii_alphabetic b && list_all goes_on_name ds
 pub letter_apart : (b : ℕ) → is_ascii_alphabetic b ≡ true → (begins_name b ≡ true) × (eqb b 46 ≡ false)
 letter_apart b h = (rw h refl, grind (arith, nat_tests))
 
-not_true : (b : Bool) → not b ≡ true → b ≡ false
-not_true true h = cc
-not_true false h = refl
+not-true : (b : Bool) → not b ≡ true → b ≡ false
+not-true true h = cc
+not-true false h = refl
 
 -- what begins a name is no blank and no `#`
 begins_apart : (b : ℕ) → begins_name b ≡ true → (is_blank b ≡ false) × (b ≢ 35)
@@ -177,7 +177,7 @@ unfolding token_at
 named_at b s a = rw a refl
 
 kind_named : (b n : ℕ) → not (eqb b 46 && eqb n 0) ≡ true → name_kind b n ≡ kinds.Name
-kind_named b n h = let e : (eqb b 46 && eqb n 0) ≡ false = not_true (eqb b 46 && eqb n 0) h in rw e refl
+kind_named b n h = let e : (eqb b 46 && eqb n 0) ≡ false = not-true (eqb b 46 && eqb n 0) h in rw e refl
 
 -- a name that isn't `.` alone
 pub token-named : (b : ℕ) (ds s : List ℕ) → begins_name b ≡ true → not (eqb b 46 && eqb (length ds) 0) ≡ true

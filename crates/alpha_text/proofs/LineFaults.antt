@@ -14,10 +14,10 @@ use Rattle.alpha_operands.specs.Operands.{Slots, nothing}
 use Rattle.alpha_operands.specs.Walk.{operands, is_unknown, stuck_at}
 use Rattle.alpha_operands.specs.Grammar.{HasFault, NoLater, fault_at}
 use Rattle.alpha_operands.proofs.Grammar.{same_kind-is, same_kind-same}
-use Rattle.alpha_operands.proofs.Apart.{shapes-distinct}
-use Rattle.alpha_token.proofs.Order.{AreInOrder, tokens-fall}
-use Rattle.alpha_operands.proofs.Faults.{among-left, has-left, among-has, fault-stuck, at_one, fault-further}
-use Rattle.alpha_operands.proofs.Faults.{stuck_most, stuck_unknown, follow-has, follow-first, operands-clean}
+use Rattle.alpha_operands.proofs.PatternsApart.{shapes-distinct}
+use Rattle.alpha_token.proofs.TokenOrder.{AreInOrder, tokens-fall}
+use Rattle.alpha_operands.proofs.OperandFaults.{among-left, has-left, among-has, fault-stuck, at_one, fault-further}
+use Rattle.alpha_operands.proofs.OperandFaults.{stuck_most, stuck_unknown, follow-has, follow-first, operands-clean}
 use Rattle.alpha_text.specs.declared.head.Head.{Head}
 use Rattle.alpha_text.specs.declared.reader.LineFault.{LineFault}
 use Rattle.alpha_text.specs.Heads.{head_of, shape_of}

@@ -14,7 +14,7 @@ use Rattle.alpha_operands.specs.Operands.{Slots, nothing}
 use Rattle.alpha_operands.specs.Walk.{operands}
 use Rattle.alpha_operands.specs.Grammar.{AreOperands}
 use Rattle.alpha_operands.proofs.Grammar.{same_kind-is, same_kind-same, follow-spells, spells-follow}
-use Rattle.alpha_operands.proofs.Apart.{shapes-distinct}
+use Rattle.alpha_operands.proofs.PatternsApart.{shapes-distinct}
 use Rattle.alpha_text.specs.declared.head.Head.{Head}
 use Rattle.alpha_text.specs.Heads.{head_of, shape_of}
 use Rattle.alpha_text.specs.Statements.{Stmt, stmt_by}

@@ -31,9 +31,9 @@ use Rattle.alpha_operands.specs.Values.{Listed, number, label as listed_label, e
 use Rattle.alpha_operands.specs.Values.{first_operands, value_in, value_of, first_value, list_shape, AreValuesOf}
 use Rattle.alpha_operands.specs.Walk.{is_whole, piece_behind, front_after, sign_after, follow}
 use Rattle.alpha_operands.specs.Grammar.{AreOperands}
-use Rattle.alpha_operands.proofs.Apart.{shapes-distinct}
-use Rattle.alpha_operands.proofs.Changes.{a_value, a_label, a_given}
-use Rattle.alpha_operands.proofs.Sizes.{value-sized}
+use Rattle.alpha_operands.proofs.PatternsApart.{shapes-distinct}
+use Rattle.alpha_operands.proofs.SlotChanges.{a_value, a_label, a_given}
+use Rattle.alpha_operands.proofs.ListValueSizes.{value-sized}
 use Rattle.alpha_operands.proofs.Grammar.{at_end, grammar-took, grammar-went, spells-follow}
 use Rattle.alpha_text.specs.declared.head.PseudoOp.TheVariants as owns
 use Rattle.alpha_text.specs.declared.head.Head.{Head}
@@ -42,22 +42,22 @@ use Rattle.alpha_text.specs.Heads.{shape_of}
 use Rattle.alpha_text.specs.Statements.{Stmt, stmt_by, half_stmt, memory_stmt, branch_stmt, entry_stmt}
 use Rattle.alpha_text.specs.Reading.{LineStmt, list_in, read}
 use Rattle.alpha_text.specs.Grammar.{IsStatement, IsLabelled, IsLine, IsBehindLabel}
-use Rattle.alpha_token.proofs.Order.{AreInOrder, tokens-fall}
+use Rattle.alpha_token.proofs.TokenOrder.{AreInOrder, tokens-fall}
 use Rattle.alpha_token.proofs.TokenSuffixes.{tokens-behind}
 use Rattle.alpha_text.specs.References.{IsLabel, IsOffset, IsReference, IsListedWell, RefersWell, IsWell}
 use Rattle.alpha_text.proofs.Lines.{read-is}
 
 -- a label's offset
-negated : (n : ℕ) → n < 2 ^ 31 → IsOffset (neg_ℤ (pos n))
-negated zero h = lit≤ tt
-negated (suc n) h = omega arith
+IsOffset-negative : (n : ℕ) → n < 2 ^ 31 → IsOffset (neg_ℤ (pos n))
+IsOffset-negative zero h = lit≤ tt
+IsOffset-negative (suc n) h = omega arith
 
 offset_well : (sign : Sign) (n : ℕ) (v : ℤ) → offset_of sign n ≡ Some v → IsOffset v
 offset_well sign n v h = by (nat_lt n (2 ^ 31)) refl h
   where
     here : (s : Sign) → n < 2 ^ 31 → IsOffset (signed s n)
     here signs.Plus l = l
-    here signs.Minus l = negated n l
+    here signs.Minus l = IsOffset-negative n l
 
     by : (b : Bool) → nat_lt n (2 ^ 31) ≡ b → cond b (Some (signed sign n)) None ≡ Some v → IsOffset v
     by true e k =

@@ -36,11 +36,12 @@ use Rattle.alpha_text.specs.declared.head.PseudoOp.{PseudoOp}
 use Rattle.alpha_text.specs.declared.head.PseudoOp.TheVariants as owns
 use Rattle.alpha_text.specs.Heads.{branch_shape, operate_shape, head_of, head_name, pseudo_op_name}
 use Rattle.alpha_text.specs.SuffixWords.{BeginsWithout, Says, SaysBy, IsApart}
-use Rattle.alpha_text.proofs.Names.{head_of-insn, head_of-pseudo_op_name, name_of-word}
-use Rattle.alpha_text.proofs.Formats.{memory_forward, memory_back, branch_forward, branch_itself, branch_back}
-use Rattle.alpha_text.proofs.Formats.{call_forward, call_itself, call_back, jump_words, return_words, operate_register}
-use Rattle.alpha_text.proofs.Formats.{operate_literal, unary_register, unary_literal, pair_words, single_word}
-use Rattle.alpha_text.proofs.Formats.{prefetch_words, alone_words}
+use Rattle.alpha_text.proofs.NameLookups.{head_of-insn, head_of-pseudo_op_name, name_of-word}
+use Rattle.alpha_text.proofs.FormatOperands.{memory_forward, memory_back, branch_forward, branch_itself, branch_back}
+use Rattle.alpha_text.proofs.FormatOperands.{call_forward, call_itself, call_back, jump_words, return_words}
+use Rattle.alpha_text.proofs.FormatOperands.{operate_register}
+use Rattle.alpha_text.proofs.FormatOperands.{operate_literal, unary_register, unary_literal, pair_words, single_word}
+use Rattle.alpha_text.proofs.FormatOperands.{prefetch_words, alone_words}
 use Rattle.alpha_text.proofs.CanonicalTokens.{is_word, letter_apart, token-named}
 
 -- a name of the tables begins a name, goes on as one, and isn't `.` alone

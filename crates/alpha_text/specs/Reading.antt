@@ -41,15 +41,15 @@ with_head t ts None = Err (fault_at (left_of t) UnknownName)
 with_head t ts (Some head) = with_operands head t.rest (operands (patterns (shape_of head)) ts)
 
 -- a statement that begins with a token
-abbrev pub named : Lexeme → Tokens → Result Stmt OperandFault
-named t ts =
+abbrev pub statement_from : Lexeme → Tokens → Result Stmt OperandFault
+statement_from t ts =
     if same_kind t.kind kinds.Name then with_head t ts (head_of t.text) else Err (fault_at (left_of t) (stuck_at t))
 
 -- at most one statement
 abbrev pub statement_of : Tokens → Result Stmt OperandFault
 statement_of (End left) = Ok empty
 statement_of (Bad left) = Err (fault_at left BadToken)
-statement_of (Next t ts) = named t ts
+statement_of (Next t ts) = statement_from t ts
 
 -- a name with a colon directly behind it
 abbrev pub is_labelled : Lexeme → Bool

@@ -20,7 +20,7 @@ fn whole(number: Option<Number>) -> u64
 }
 
 // The count of zeroed bytes.
-fn zeroed(number: Option<Number>) -> u32
+fn zero_count(number: Option<Number>) -> u32
     ensures { result ≡ zeroed_in number }
 {
     match number {
@@ -86,7 +86,7 @@ pub(crate) fn of_directive<'a>(
         PseudoOp::Long => Statement::Values { bytes: 4, list },
         PseudoOp::Quad => Statement::Values { bytes: 8, list },
         PseudoOp::Ascii => Statement::Text(text(o.text)),
-        PseudoOp::Zero => Statement::Zero(zeroed(o.number)),
+        PseudoOp::Zero => Statement::Zero(zero_count(o.number)),
         PseudoOp::Align => Statement::Align(align(o.number)),
         PseudoOp::Code => Statement::CodeSection,
         PseudoOp::Data => Statement::DataSection,

@@ -140,12 +140,12 @@ impl PseudoOp {
     fn of(name: &[u8]) -> Option<PseudoOp>
         ensures { result ≡ pseudo_op_at name.now }
     {
-        named(&EVERY, name)
+        find_pseudo_op(&EVERY, name)
     }
 }
 
 // The one of this name among some.
-fn named(pseudo_ops: &[PseudoOp], name: &[u8]) -> Option<PseudoOp>
+fn find_pseudo_op(pseudo_ops: &[PseudoOp], name: &[u8]) -> Option<PseudoOp>
     ensures { result ≡ find (λ o. bytes_eq (pseudo_op_name o) name.now) pseudo_ops.now }
 {
     for pseudo_op in pseudo_ops {

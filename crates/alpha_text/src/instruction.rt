@@ -28,7 +28,7 @@ pub(crate) fn insn(form: Form) -> Insn
 }
 
 // The register of a number.
-pub(crate) fn numbered(number: u8) -> Reg
+pub(crate) fn reg_of_number(number: u8) -> Reg
     requires { number < 32 }
     ensures { result ≡ number }
 {
@@ -127,7 +127,7 @@ fn words(number: Option<Number>) -> i32
 pub fn return_register() -> Reg
     ensures { result ≡ 26 }
 {
-    numbered(26)
+    reg_of_number(26)
 }
 
 /// The register that a branch writes where its line names none: R26 for `bsr`, and R31 for all others.

@@ -8,7 +8,7 @@ ghost use Rattle.alpha_operands.specs.Operands.{slots};
 ghost use Rattle.alpha_text.specs.Statements.{call_in, move_number, move_form, of_zero, operation_of, pseudo_form};
 
 use crate::head::PseudoOp;
-use crate::instruction::{insn, numbered, of_zero, reg};
+use crate::instruction::{insn, reg_of_number, of_zero, reg};
 use alpha_operands::{Number, Operands};
 use alpha_table::{Form, Insn, MemOp, Op, Src};
 use alpha_words::{PalCall, Reg};
@@ -97,7 +97,7 @@ pub(crate) fn of_pseudo(pseudo_op: PseudoOp, o: &Operands<'_>) -> Option<Insn>
         PseudoOp::Unop => Some(insn(Form::Mem {
             op: MemOp::LdqU,
             ra: Reg::ZERO,
-            rb: numbered(30),
+            rb: reg_of_number(30),
             disp: 0,
         })),
         PseudoOp::CallPal => Some(insn(Form::Pal(call(o.number)))),

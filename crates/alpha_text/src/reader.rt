@@ -5,7 +5,8 @@ ghost use Rattle.alpha_operands.specs.Shapes.{patterns};
 ghost use Rattle.alpha_operands.specs.Walk.{operands};
 ghost use Rattle.alpha_text.specs.Heads.{shape_of};
 ghost use Rattle.alpha_text.specs.Statements.{stmt_of};
-ghost use Rattle.alpha_text.specs.Reading.{line_stmt_of, list_in, with_operands, named, statement_of, is_labelled};
+ghost use Rattle.alpha_text.specs.Reading.{line_stmt_of, list_in, with_operands, statement_from, statement_of};
+ghost use Rattle.alpha_text.specs.Reading.{is_labelled};
 ghost use Rattle.alpha_text.specs.Reading.{labelled, line_after_label, line_of, read};
 
 use crate::Statement;
@@ -56,9 +57,9 @@ pub fn with_operands(head: Head, behind: &[u8]) -> Result<Statement<'_>, Operand
 }
 
 // A statement that begins with a token, where so many bytes of the line are left.
-fn named<'a>(token: &Token<'a>, left: usize) -> Result<Statement<'a>, OperandFault>
+fn statement_from<'a>(token: &Token<'a>, left: usize) -> Result<Statement<'a>, OperandFault>
     requires { left ≡ left_of (lexeme token.now) }
-    ensures { Gives stmt_of result (named (lexeme token.now) (tokens token.now.rest.now)) }
+    ensures { Gives stmt_of result (statement_from (lexeme token.now) (tokens token.now.rest.now)) }
 {
     if token.kind == TokenKind::Name {
         match Head::of(token.text) {
@@ -86,7 +87,7 @@ fn statement_of(line: &[u8]) -> Result<Statement<'_>, OperandFault>
             left,
             kind: LineFaultKind::BadToken,
         }),
-        Step::Token(token) => named(&token, token.text.len() + token.rest.len()),
+        Step::Token(token) => statement_from(&token, token.text.len() + token.rest.len()),
     }
 }
 
@@ -118,12 +119,12 @@ fn item_after_label<'a>(token: &Token<'a>, left: usize) -> Result<Item<'a>, Oper
 }
 
 // The item of a line without a label, which begins with a token.
-fn unlabelled<'a>(token: &Token<'a>, left: usize) -> Result<Item<'a>, OperandFault>
+fn item_without_label<'a>(token: &Token<'a>, left: usize) -> Result<Item<'a>, OperandFault>
     requires { left ≡ left_of (lexeme token.now) }
     ensures { Gives line_stmt_of result
-        (labelled None (named (lexeme token.now) (tokens token.now.rest.now))) }
+        (labelled None (statement_from (lexeme token.now) (tokens token.now.rest.now))) }
 {
-    match named(token, left) {
+    match statement_from(token, left) {
         Ok(statement) => Ok(Item {
             label: None,
             statement,
@@ -142,7 +143,7 @@ fn line_of(line: &[u8]) -> Result<Item<'_>, OperandFault>
             if is_labelled(&token) {
                 item_after_label(&token, left)
             } else {
-                unlabelled(&token, left)
+                item_without_label(&token, left)
             }
         }
         Step::End(_) => Ok(Item {

@@ -1,8 +1,8 @@
-pub mod Choices
+pub mod ConditionalChoices
 pub mod SplitLines
 pub mod Digits
-pub mod Order
+pub mod TokenOrder
 pub mod TokenSuffixes
 pub mod StringLengths
-pub mod Texts
-pub mod Returns
+pub mod QuotedTexts
+pub mod CarriageReturns

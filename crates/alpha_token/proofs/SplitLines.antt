@@ -18,9 +18,9 @@ use Rattle.alpha_token.specs.Tokens.{Tokens, End, Bad, Next, name_kind, if_any, 
 use Rattle.alpha_token.specs.Tokens.{tokens_after, tokens}
 use Rattle.alpha_token.proofs.TokenSuffixes.{tokens_after-skip}
 use Rattle.alpha_token.proofs.StringLengths.{option_map-some}
-use Rattle.alpha_token.proofs.Choices.{cond-either, choose_both}
-use Rattle.alpha_token.proofs.Texts.{quoted_len-front, quoted_len-within}
-use Rattle.alpha_token.proofs.Order.{AreInOrder, tokens-fall, LeftBehind, left-rest-falls}
+use Rattle.alpha_token.proofs.ConditionalChoices.{cond-either, choose_both}
+use Rattle.alpha_token.proofs.QuotedTexts.{quoted_len-front, quoted_len-within}
+use Rattle.alpha_token.proofs.TokenOrder.{AreInOrder, tokens-fall, LeftBehind, left-rest-falls}
 
 -- a run of bytes that ends before the cut is the same
 prefix_len-front : (p : ℕ → Bool) (a c : List ℕ) → prefix_len p (a ++ c) ≤ length a

@@ -10,7 +10,7 @@ use Rattle.alpha_token.specs.declared.token.TokenKind.{TokenKind}
 use Rattle.alpha_token.specs.declared.token.Step.{Step}
 use Rattle.alpha_token.specs.declared.token.Step.TheVariants as steps
 use Rattle.alpha_token.specs.Bytes.{is_blank}
-use Rattle.alpha_token.proofs.Choices.{cond-either}
+use Rattle.alpha_token.proofs.ConditionalChoices.{cond-either}
 use Rattle.alpha_token.specs.Tokens.{Lexeme, Tokens, End, Bad, Next, token_at, put_before, tokens_after, tokens, Reads}
 use Rattle.alpha_token.specs.Tokens.{Joins}
 

@@ -10,8 +10,8 @@ abbrev pub is_printable : ℕ → Bool
 is_printable b = nat_le 32 b && nat_le b 126
 
 -- the byte that a letter stands for behind a backslash
-abbrev pub escaped : ℕ → Option ℕ
-escaped e =
+abbrev pub unescape : ℕ → Option ℕ
+unescape e =
     if e == 110 then Some 10 else if e == 116 then Some 9 else if e == 92 then Some 92 else if e == 34 then Some 34
     else if e == 48 then Some 0 else None
 
@@ -25,7 +25,7 @@ hex_pair (a ∷ b ∷ s) =
 -- the same for what may follow a backslash: `n`, `t`, `\`, `"`, `0`, or `x` and two hexadecimal digits
 abbrev pub escape : List ℕ → Option (ℕ × ℕ)
 escape [] = None
-escape (e ∷ s) = if e == 120 then hex_pair s else option_map (λ v. (v, 1)) (escaped e)
+escape (e ∷ s) = if e == 120 then hex_pair s else option_map (λ v. (v, 1)) (unescape e)
 
 -- the byte that the text of a string stands for first, and how many bytes of the text follow the first one for it
 unfoldable pub byte_at : List ℕ → Option (ℕ × ℕ)

@@ -115,7 +115,7 @@ pub(crate) fn hex_digits_len(s: &[u8]) -> usize
 
 // The first n bytes.
 #[inline(always)]
-pub(crate) fn front(s: &[u8], n: usize) -> &[u8]
+pub(crate) fn first_bytes(s: &[u8], n: usize) -> &[u8]
     requires { n ≤ length s.now }
     ensures { result.now ≡ take n s.now }
 {

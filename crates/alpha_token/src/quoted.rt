@@ -1,6 +1,6 @@
 ghost use Rattle.std.specs.Prelude.{◌≡◌, ◌≤◌, ◌<◌, ◌+◌, length, IfSome};
 ghost use Rattle.std.specs.Option.{option_map};
-ghost use Rattle.alpha_token.specs.Quoted.{is_printable, escaped, hex_pair, escape, byte_at, first_byte, is_closed};
+ghost use Rattle.alpha_token.specs.Quoted.{is_printable, unescape, hex_pair, escape, byte_at, first_byte, is_closed};
 ghost use Rattle.alpha_token.specs.Quoted.{quoted_len};
 
 use crate::bytes::bytes_from;
@@ -13,8 +13,8 @@ fn is_printable(b: u8) -> bool
 }
 
 // The byte that a letter stands for behind a backslash.
-fn escaped(letter: u8) -> Option<u8>
-    ensures { result ≡ escaped letter }
+fn unescape(letter: u8) -> Option<u8>
+    ensures { result ≡ unescape letter }
 {
     match letter {
         b'n' => Some(b'\n'),
@@ -47,7 +47,7 @@ fn escape(behind_backslash: &[u8]) -> Option<(u8, usize)>
     match behind_backslash {
         [] => None,
         [b'x', digits @ ..] => hex_pair(digits),
-        [letter, ..] => escaped(*letter).map(|value| (value, 1)),
+        [letter, ..] => unescape(*letter).map(|value| (value, 1)),
     }
 }
 

@@ -8,7 +8,7 @@ ghost use Rattle.alpha_token.specs.declared.token.TokenKind.TheVariants.{Text};
 ghost use Rattle.alpha_token.specs.Tokens.{token_at, name_kind, if_any, Reads, Joins};
 
 use crate::bytes::{
-    alphanumeric_len, begins_name, blanks_len, bytes_from, front, letters_len, name_len,
+    alphanumeric_len, begins_name, blanks_len, bytes_from, first_bytes, letters_len, name_len,
 };
 use crate::numeral::number_more;
 use crate::quoted::quoted_len;
@@ -135,7 +135,7 @@ fn next_behind_blanks(line: &[u8]) -> Step<'_>
         None => Step::Bad(line.len()),
         Some((kind, more)) => Step::Token(Token {
             kind,
-            text: front(line, 1 + more),
+            text: first_bytes(line, 1 + more),
             rest: bytes_from(rest, more),
         }),
     }

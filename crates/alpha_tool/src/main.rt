@@ -29,7 +29,7 @@ fn main(rt: HostRuntime) -> ExitCode {
 // The files. A `record` writes to its streams before it keeps its journal, and behind that.
 fn shelf_for<'a>(rt: &'a HostRuntime, arguments: &[String]) -> DiskShelf<&'a HostRuntime> {
     match arguments.get(1) {
-        Some(command) if command.as_str() == "record" => DiskShelf::sparing_streams(rt),
+        Some(command) if command.as_str() == "record" => DiskShelf::with_stream_guard(rt),
         _ => DiskShelf::new(rt),
     }
 }

@@ -1,5 +1,5 @@
-pub mod Ranges
-pub mod Columns
+pub mod GreatestInRange
+pub mod ClassTests
 pub mod ScanRelation
 pub mod ScanSteps
 pub mod HandlerEffect

@@ -11,10 +11,10 @@ use Rattle.alpha_table.specs.Code.{class_at, trap_rc, Straight}
 use Rattle.alpha_image.specs.Parts.{Parts}
 use Rattle.alpha_trap.specs.Scan.{is_straight, is_destination, fits, greatest_below, place_or_end, scan_at, scan}
 use Rattle.alpha_trap.specs.Finds.{Covers, Fits, Finds}
-use Rattle.alpha_trap.proofs.Ranges.{list_all-range, within_all, any_within, within_any, greatest_below-some}
-use Rattle.alpha_trap.proofs.Ranges.{greatest_below-is}
-use Rattle.alpha_trap.proofs.Columns.{trigger_has_rc, has_rc_trigger, is_straight-kind, on_straight}
-use Rattle.alpha_trap.proofs.Columns.{is_destination-trap_rc, trap_rc-is_destination}
+use Rattle.alpha_trap.proofs.GreatestInRange.{list_all-range, within_all, any_within, within_any, greatest_below-some}
+use Rattle.alpha_trap.proofs.GreatestInRange.{greatest_below-is}
+use Rattle.alpha_trap.proofs.ClassTests.{trigger_has_rc, has_rc_trigger, is_straight-kind, on_straight}
+use Rattle.alpha_trap.proofs.ClassTests.{is_destination-trap_rc, trap_rc-is_destination}
 
 -- ---- the parts of the test
 

@@ -8,7 +8,7 @@ use Rattle.alpha_table.specs.declared.columns.InsnKind.TheVariants as kinds
 use Rattle.alpha_table.specs.Code.{class_at, kind, trap_rc, Straight}
 use Rattle.alpha_trap.specs.Scan.{fits, greatest_below}
 use Rattle.alpha_trap.specs.Finds.{Fits}
-use Rattle.alpha_trap.proofs.Ranges.{greatest_below-none}
+use Rattle.alpha_trap.proofs.GreatestInRange.{greatest_below-none}
 use Rattle.alpha_trap.proofs.ScanRelation.{Fits-false, greatest-is}
 
 -- a trigger in [from, to) has the register as destination

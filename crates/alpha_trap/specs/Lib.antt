@@ -2,4 +2,4 @@ pub mod Scan
 pub mod Finds
 pub mod Completed
 pub mod Handler
-pub mod CodeAlone
+pub mod RawCode

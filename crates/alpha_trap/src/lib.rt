@@ -17,10 +17,10 @@
 //!
 //! `specs/Scan.antt` says what the scan finds as a function, and `specs/Finds.antt` as a relation;
 //! `specs/Handler.antt` says what the handler leaves, with the registers of `specs/Completed.antt`; for code without an
-//! image they go by `specs/CodeAlone.antt`. `src/scan.rt`, `src/handler.rt`, `src/words.rt` and `src/reports.rt` have
+//! image they go by `specs/RawCode.antt`. `src/scan.rt`, `src/handler.rt`, `src/words.rt` and `src/reports.rt` have
 //! the calls, `src/trigger.rt` what they read of an instruction. `proofs/ScanSteps.antt` follows
-//! the walk down word by word, `ScanRelation.antt` ties the function to the relation, `Ranges.antt` and `Columns.antt`
-//! have the tests of places and of words, `HandlerEffect.antt` the handler's frame.
+//! the walk down word by word, `ScanRelation.antt` ties the function to the relation, `GreatestInRange.antt` and
+//! `ClassTests.antt` have the tests of places and of words, `HandlerEffect.antt` the handler's frame.
 #![tactic(auto)]
 
 mod handler;

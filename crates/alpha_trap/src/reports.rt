@@ -2,7 +2,7 @@
 
 ghost use Rattle.std.specs.Prelude.{◌≡◌, IsTrue, Some, None, true, IfOk, IfErr, OnErr};
 ghost use Rattle.alpha_pal.specs.Kernel.{arith_frame, entered};
-ghost use Rattle.alpha_trap.specs.CodeAlone.{code_alone};
+ghost use Rattle.alpha_trap.specs.RawCode.{raw_code};
 ghost use Rattle.alpha_trap.specs.Handler.{going_on, kernel_after, reported};
 
 use crate::{Lost, handle, handle_words, laws_of_reports};
@@ -67,12 +67,12 @@ pub fn report_words(
     completion: Completion,
 ) -> Result<u64, Lost>
     requires { IsTrue kernel.old.user }
-    ensures done { IfOk result (λ next. reported (code_alone words.now base) completion pc mask regs.old
+    ensures done { IfOk result (λ next. reported (raw_code words.now base) completion pc mask regs.old
         ≡ Some (going_on next regs.new)) }
     ensures state { IfOk result (λ next. kernel.new
         ≡ kernel_after (entered (arith_frame pc regs.old) regs.old) (going_on next regs.new)) }
     ensures lost { IfErr result (λ lost. lost ≡ record { trap_pc = pc; mask = mask }) }
-    ensures cause { OnErr result (reported (code_alone words.now base) completion pc mask regs.old ≡ None) }
+    ensures cause { OnErr result (reported (raw_code words.now base) completion pc mask regs.old ≡ None) }
     ensures same { OnErr result (regs.new ≡ regs.old) }
     ensures left { OnErr result (kernel.new
         ≡ record (entered (arith_frame pc regs.old) regs.old) { user = true }) }

@@ -7,7 +7,7 @@ ghost use Rattle.alpha_table.specs.ClassOf.{class_of};
 ghost use Rattle.alpha_table.specs.Code.{class_at, kind};
 ghost use Rattle.alpha_table.specs.declared.columns.InsnKind.TheVariants as kinds;
 ghost use Rattle.alpha_pal.specs.Kernel.{user_regs};
-ghost use Rattle.alpha_trap.specs.CodeAlone.{code_alone};
+ghost use Rattle.alpha_trap.specs.RawCode.{raw_code};
 ghost use Rattle.alpha_trap.specs.Finds.{Finds};
 ghost use Rattle.alpha_trap.specs.Handler.{going_on, handled, handled_at, kernel_after, place_of_trap, trap_in};
 ghost use Rattle.alpha_trap.specs.Scan.{fits, greatest_below, place_or_end, scan};
@@ -22,9 +22,9 @@ use alpha_words::{Completion, RegFile, RegSet, Word};
 /// The place of the instruction that made a trap, as [`scan_back`](crate::scan_back) finds it, in words whose first
 /// one has this address. A word that is no instruction neither traps nor turns. There may be any number of words.
 pub fn scan_words(words: &[u32], base: u64, trap_pc: u64, mask: RegSet) -> Option<usize>
-    ensures value { result ≡ scan (code_alone words.now base) trap_pc mask }
-    ensures found { IfSome result (λ place. Finds (code_alone words.now base) trap_pc mask place) }
-    ensures none { IfNone result ((place : ℕ) → ¬ Finds (code_alone words.now base) trap_pc mask place) }
+    ensures value { result ≡ scan (raw_code words.now base) trap_pc mask }
+    ensures found { IfSome result (λ place. Finds (raw_code words.now base) trap_pc mask place) }
+    ensures none { IfNone result ((place : ℕ) → ¬ Finds (raw_code words.now base) trap_pc mask place) }
     ensures bound { IfSome result (λ place. place < length words.now) }
     ensures before { IfSome result (λ place. base + 4 * place + 4 ≤ trap_pc) }
 {
@@ -38,7 +38,7 @@ pub fn scan_words(words: &[u32], base: u64, trap_pc: u64, mask: RegSet) -> Optio
 // The place of the word at an address, or one past the last place for the address behind it.
 #[tactic(auto, unfolding(alpha_image::specs::Parts::place_of))]
 fn place_or_end(words: &[u32], base: u64, pc: u64) -> Option<usize>
-    ensures value { result ≡ place_or_end (code_alone words.now base) pc }
+    ensures value { result ≡ place_or_end (raw_code words.now base) pc }
     ensures bound { IfSome result (λ place. place ≤ length words.now) }
     ensures before { IfSome result (λ place. base + 4 * place ≤ pc) }
 {
@@ -106,12 +106,12 @@ pub fn handle_words(
     completion: Completion,
 ) -> Result<u64, Lost>
     requires { kernel.old.user ≡ false }
-    ensures ok { IfOk result (λ pc. handled (code_alone words.now base) completion kernel.old regs.old
+    ensures ok { IfOk result (λ pc. handled (raw_code words.now base) completion kernel.old regs.old
         ≡ Some (going_on pc regs.new)) }
     ensures state { IfOk result (λ pc.
         kernel.new ≡ kernel_after kernel.old (going_on pc regs.new)) }
     ensures refused { IfErr result (λ lost. lost ≡ trap_in kernel.old regs.old) }
-    ensures cause { IfErr result (λ lost. place_of_trap (code_alone words.now base) lost ≡ None) }
+    ensures cause { IfErr result (λ lost. place_of_trap (raw_code words.now base) lost ≡ None) }
     ensures same { OnErr result ((kernel.new ≡ kernel.old) × (regs.new ≡ regs.old)) }
 {
     let trap = trap_in(kernel, regs);
@@ -139,7 +139,7 @@ fn end_trap(
     requires room { base + 4 * place + 4 < 2 ^ 64 }
     requires trigger { kind (class_at words.now place) ≡ Some kinds.Trigger }
     ensures value { going_on result (user_regs kernel.new regs.new)
-        ≡ handled_at (code_alone words.now base) completion (user_regs kernel.old regs.old) place }
+        ≡ handled_at (raw_code words.now base) completion (user_regs kernel.old regs.old) place }
     ensures mode { kernel.new.user ≡ false }
     ensures status { kernel.new.frame.ps ≡ kernel.old.frame.ps }
     ensures size { length regs.new ≡ length regs.old }

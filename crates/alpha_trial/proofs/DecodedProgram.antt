@@ -77,19 +77,19 @@ class_second x = class_in-decoded (0x245f0000 + displacement_field x) ∙ ap (op
 abbrev pub fixed_words : List ℕ
 fixed_words = 0x40220803 ∷ 0x20830001 ∷ 0x4c220805 ∷ 0x63ff0000 ∷ 0x44670807 ∷ 0x44870807 ∷ 0x44a70807 ∷ []
 
-abbrev fixed : List Form
-fixed =
+abbrev fixed_insns : List Form
+fixed_insns =
     Operate AddlV 1 (Reg 2) 3 ∷ Mem Lda 4 3 (pos 1) ∷ Operate MullV 1 (Reg 2) 5 ∷ Misc Trapb
     ∷ Operate Xor 3 (Reg 7) 7 ∷ Operate Xor 4 (Reg 7) 7 ∷ Operate Xor 5 (Reg 7) 7 ∷ []
 
-abbrev some : Form → Option Form
-some i = Some i
+abbrev some_form : Form → Option Form
+some_form i = Some i
 
-fixed_decoded : map decoded fixed_words ≡ map some fixed
+fixed_decoded : map decoded fixed_words ≡ map some_form fixed_insns
 unfolding decoded memory_form branch_form jump_form operate_form misc_form fetch_form pal_form source_of
 fixed_decoded = refl
 
-block_decoded : (x y : ℕ) → map decoded (block_words x y) ≡ map some (block x y)
+block_decoded : (x y : ℕ) → map decoded (block_words x y) ≡ map some_form (block x y)
 block_decoded x y =
     ap (λ (o : Option Form). o ∷ decoded (0x245f0000 + displacement_field y) ∷ map decoded fixed_words)
     (decoded_first x)
@@ -97,27 +97,27 @@ block_decoded x y =
     ∙ ap (λ (l : List (Option Form)). Some (Mem Ldah 1 31 (displacement x)) ∷ Some (Mem Ldah 2 31 (displacement y)) ∷ l)
     fixed_decoded)
 
-blocks_decoded : (n : ℕ) (g : Lcg) → map decoded (blocks_words n g) ≡ map some (blocks n g)
+blocks_decoded : (n : ℕ) (g : Lcg) → map decoded (blocks_words n g) ≡ map some_form (blocks n g)
 blocks_decoded zero g = refl
 blocks_decoded (suc n) g =
     let x = pcg32 g in
     let y = pcg32 x.1 in
     map-append decoded (block_words x.0 y.0) (blocks_words n y.1)
     ∙ (ap (λ (l : List (Option Form)). l ++ map decoded (blocks_words n y.1)) (block_decoded x.0 y.0)
-    ∙ (ap (λ (l : List (Option Form)). map some (block x.0 y.0) ++ l) (blocks_decoded n y.1)
-    ∙ sym (map-append some (block x.0 y.0) (blocks n y.1))))
+    ∙ (ap (λ (l : List (Option Form)). map some_form (block x.0 y.0) ++ l) (blocks_decoded n y.1)
+    ∙ sym (map-append some_form (block x.0 y.0) (blocks n y.1))))
 
-ending_decoded : map decoded ending_words ≡ map some ending
+ending_decoded : map decoded ending_words ≡ map some_form ending
 unfolding decoded memory_form branch_form jump_form operate_form misc_form fetch_form pal_form source_of
 ending_decoded = refl
 
-pub program_decoded : (n : ℕ) → map decoded (program_words n) ≡ map some (program n)
+pub program_decoded : (n : ℕ) → map decoded (program_words n) ≡ map some_form (program n)
 unfolding program_words
 program_decoded n =
     map-append decoded (blocks_words n (seeded n)) ending_words
     ∙ (ap (λ (l : List (Option Form)). l ++ map decoded ending_words) (blocks_decoded n (seeded n))
-    ∙ (ap (λ (l : List (Option Form)). map some (blocks n (seeded n)) ++ l) ending_decoded
-    ∙ sym (map-append some (blocks n (seeded n)) ending)))
+    ∙ (ap (λ (l : List (Option Form)). map some_form (blocks n (seeded n)) ++ l) ending_decoded
+    ∙ sym (map-append some_form (blocks n (seeded n)) ending)))
 
 -- ---- all are code words
 
@@ -129,64 +129,69 @@ code_word w i small e low = (
       (subst (λ (o : Option Form). IsSomeAnd o (λ j. IsWithin (level_of j) levels.One)) (sym e) low),
 )
 
-abbrev Fine : ℕ → Type 0
-Fine w = IsCodeWord levels.One w
+abbrev IsLevelOneWord : ℕ → Type 0
+IsLevelOneWord w = IsCodeWord levels.One w
 
-fixed_fine : All Fine fixed_words
+fixed_fine : All IsLevelOneWord fixed_words
 unfolding class_in
 fixed_fine =
-    All-cons Fine 0x40220803 (0x20830001 ∷ 0x4c220805 ∷ 0x63ff0000 ∷ 0x44670807 ∷ 0x44870807 ∷ 0x44a70807 ∷ [])
+    All-cons IsLevelOneWord 0x40220803
+    (0x20830001 ∷ 0x4c220805 ∷ 0x63ff0000 ∷ 0x44670807 ∷ 0x44870807 ∷ 0x44a70807 ∷ [])
     (omega arith, omega arith)
-    (All-cons Fine 0x20830001 (0x4c220805 ∷ 0x63ff0000 ∷ 0x44670807 ∷ 0x44870807 ∷ 0x44a70807 ∷ [])
+    (All-cons IsLevelOneWord 0x20830001 (0x4c220805 ∷ 0x63ff0000 ∷ 0x44670807 ∷ 0x44870807 ∷ 0x44a70807 ∷ [])
     (omega arith, omega arith)
-    (All-cons Fine 0x4c220805 (0x63ff0000 ∷ 0x44670807 ∷ 0x44870807 ∷ 0x44a70807 ∷ []) (omega arith, omega arith)
-    (All-cons Fine 0x63ff0000 (0x44670807 ∷ 0x44870807 ∷ 0x44a70807 ∷ []) (omega arith, omega arith)
-    (All-cons Fine 0x44670807 (0x44870807 ∷ 0x44a70807 ∷ []) (omega arith, omega arith)
-    (All-cons Fine 0x44870807 (0x44a70807 ∷ []) (omega arith, omega arith)
-    (All-cons Fine 0x44a70807 [] (omega arith, omega arith) (All-nil Fine)))))))
+    (All-cons IsLevelOneWord 0x4c220805 (0x63ff0000 ∷ 0x44670807 ∷ 0x44870807 ∷ 0x44a70807 ∷ [])
+    (omega arith, omega arith)
+    (All-cons IsLevelOneWord 0x63ff0000 (0x44670807 ∷ 0x44870807 ∷ 0x44a70807 ∷ []) (omega arith, omega arith)
+    (All-cons IsLevelOneWord 0x44670807 (0x44870807 ∷ 0x44a70807 ∷ []) (omega arith, omega arith)
+    (All-cons IsLevelOneWord 0x44870807 (0x44a70807 ∷ []) (omega arith, omega arith)
+    (All-cons IsLevelOneWord 0x44a70807 [] (omega arith, omega arith) (All-nil IsLevelOneWord)))))))
 
-ending_fine : All Fine ending_words
+ending_fine : All IsLevelOneWord ending_words
 unfolding class_in
 ending_fine =
-    All-cons Fine 0x251f1000
+    All-cons IsLevelOneWord 0x251f1000
     (0xb4e80000 ∷ 0x221f0001 ∷ 0x47e80411 ∷ 0x225f0008 ∷ 0x201f0004
     ∷ 0x00000083 ∷ 0x221f0000 ∷ 0x201f0001 ∷ 0x00000083 ∷ [])
     (omega arith, omega arith)
-    (All-cons Fine 0xb4e80000
+    (All-cons IsLevelOneWord 0xb4e80000
     (0x221f0001 ∷ 0x47e80411 ∷ 0x225f0008 ∷ 0x201f0004 ∷ 0x00000083 ∷ 0x221f0000 ∷ 0x201f0001 ∷ 0x00000083 ∷ [])
     (omega arith, omega arith)
-    (All-cons Fine 0x221f0001
+    (All-cons IsLevelOneWord 0x221f0001
     (0x47e80411 ∷ 0x225f0008 ∷ 0x201f0004 ∷ 0x00000083 ∷ 0x221f0000 ∷ 0x201f0001 ∷ 0x00000083 ∷ [])
     (omega arith, omega arith)
-    (All-cons Fine 0x47e80411 (0x225f0008 ∷ 0x201f0004 ∷ 0x00000083 ∷ 0x221f0000 ∷ 0x201f0001 ∷ 0x00000083 ∷ [])
+    (All-cons IsLevelOneWord 0x47e80411
+    (0x225f0008 ∷ 0x201f0004 ∷ 0x00000083 ∷ 0x221f0000 ∷ 0x201f0001 ∷ 0x00000083 ∷ [])
     (omega arith, omega arith)
-    (All-cons Fine 0x225f0008 (0x201f0004 ∷ 0x00000083 ∷ 0x221f0000 ∷ 0x201f0001 ∷ 0x00000083 ∷ [])
+    (All-cons IsLevelOneWord 0x225f0008 (0x201f0004 ∷ 0x00000083 ∷ 0x221f0000 ∷ 0x201f0001 ∷ 0x00000083 ∷ [])
     (omega arith, omega arith)
-    (All-cons Fine 0x201f0004 (0x00000083 ∷ 0x221f0000 ∷ 0x201f0001 ∷ 0x00000083 ∷ []) (omega arith, omega arith)
-    (All-cons Fine 0x00000083 (0x221f0000 ∷ 0x201f0001 ∷ 0x00000083 ∷ []) (omega arith, omega arith)
-    (All-cons Fine 0x221f0000 (0x201f0001 ∷ 0x00000083 ∷ []) (omega arith, omega arith)
-    (All-cons Fine 0x201f0001 (0x00000083 ∷ []) (omega arith, omega arith)
-    (All-cons Fine 0x00000083 [] (omega arith, omega arith) (All-nil Fine))))))))))
+    (All-cons IsLevelOneWord 0x201f0004 (0x00000083 ∷ 0x221f0000 ∷ 0x201f0001 ∷ 0x00000083 ∷ [])
+    (omega arith, omega arith)
+    (All-cons IsLevelOneWord 0x00000083 (0x221f0000 ∷ 0x201f0001 ∷ 0x00000083 ∷ []) (omega arith, omega arith)
+    (All-cons IsLevelOneWord 0x221f0000 (0x201f0001 ∷ 0x00000083 ∷ []) (omega arith, omega arith)
+    (All-cons IsLevelOneWord 0x201f0001 (0x00000083 ∷ []) (omega arith, omega arith)
+    (All-cons IsLevelOneWord 0x00000083 [] (omega arith, omega arith) (All-nil IsLevelOneWord))))))))))
 
-block_fine : (x y : ℕ) → All Fine (block_words x y)
+block_fine : (x y : ℕ) → All IsLevelOneWord (block_words x y)
 block_fine x y =
     let small = low_half x in
     let low = low_half y in
-    All-cons Fine (0x243f0000 + displacement_field x) ((0x245f0000 + displacement_field y) ∷ fixed_words)
+    All-cons IsLevelOneWord (0x243f0000 + displacement_field x) ((0x245f0000 + displacement_field y) ∷ fixed_words)
     (code_word (0x243f0000 + displacement_field x) (Mem Ldah 1 31 (displacement x)) (omega arith) (decoded_first x)
     (omega arith))
-    (All-cons Fine (0x245f0000 + displacement_field y) fixed_words
+    (All-cons IsLevelOneWord (0x245f0000 + displacement_field y) fixed_words
     (code_word (0x245f0000 + displacement_field y) (Mem Ldah 2 31 (displacement y))
     (omega arith) (decoded_second y) (omega arith))
     fixed_fine)
 
-blocks_fine : (n : ℕ) (g : Lcg) → All Fine (blocks_words n g)
-blocks_fine zero g = All-nil Fine
+blocks_fine : (n : ℕ) (g : Lcg) → All IsLevelOneWord (blocks_words n g)
+blocks_fine zero g = All-nil IsLevelOneWord
 blocks_fine (suc n) g =
     let x = pcg32 g in
     let y = pcg32 x.1 in
-    All-append Fine (block_words x.0 y.0) (blocks_words n y.1) (block_fine x.0 y.0) (blocks_fine n y.1)
+    All-append IsLevelOneWord (block_words x.0 y.0) (blocks_words n y.1) (block_fine x.0 y.0) (blocks_fine n y.1)
 
-pub program_fine : (n : ℕ) → All Fine (program_words n)
+pub program_fine : (n : ℕ) → All IsLevelOneWord (program_words n)
 unfolding program_words
-program_fine n = All-append Fine (blocks_words n (seeded n)) ending_words (blocks_fine n (seeded n)) ending_fine
+program_fine n =
+    All-append IsLevelOneWord (blocks_words n (seeded n)) ending_words (blocks_fine n (seeded n)) ending_fine

@@ -29,17 +29,18 @@ use Rattle.alpha_seq.specs.State.{State, Stepped, stepped, Ends}
 use Rattle.alpha_seq.specs.Start.{start_memory, start}
 use Rattle.alpha_seq.specs.Step.{onward, unless, returned, step}
 use Rattle.alpha_seq.specs.Run.{Run, output, is_over, extended_by, advance, after}
-use Rattle.alpha_run.proofs.Rows.{output-append}
+use Rattle.alpha_run.proofs.StepRows.{output-append}
 use Rattle.alpha_seq.proofs.RunsOverInput.{after-over}
 use Rattle.alpha_trial.specs.Words.{program_words, trial_image}
 use Rattle.alpha_trial.specs.Report.{wrapping, sequential_run}
 use Rattle.alpha_trial.specs.Lines.{Exits}
 use Rattle.alpha_trial.proofs.WordCounts.{program_size}
-use Rattle.alpha_trial.proofs.Buffer.{data_base, HoldsEight, buffer-fault_of, buffer_written-HoldsEight}
-use Rattle.alpha_trial.proofs.Stages.{RegisterFact, fact, HoldsFacts, StageReached, LeavesFacts, Stage, trial}
-use Rattle.alpha_trial.proofs.Stages.{advance-at_class, next_stage}
-use Rattle.alpha_trial.proofs.Stages.{setting_leaves, address_stage, known_after}
-use Rattle.alpha_trial.proofs.StepsWithoutEffect.{base, ending_class, blocks_stage}
+use Rattle.alpha_trial.proofs.DataBuffer.{data_base, HoldsEight, buffer-fault_of, buffer_written-HoldsEight}
+use Rattle.alpha_trial.proofs.RunStages.{RegisterFact, register_fact, HoldsFacts, StageReached, LeavesFacts, Stage}
+use Rattle.alpha_trial.proofs.RunStages.{trial_program}
+use Rattle.alpha_trial.proofs.RunStages.{advance-at_class, next_stage}
+use Rattle.alpha_trial.proofs.RunStages.{setting_leaves, address_stage, known_after}
+use Rattle.alpha_trial.proofs.StepsWithoutEffect.{zero_register_fact, ending_class, blocks_stage}
 
 -- ---- the words
 
@@ -96,25 +97,25 @@ numbers = record { zero_is = refl; one = refl; four = refl; eight = refl; data_s
 -- ---- facts
 
 abbrev facts1 : List RegisterFact
-facts1 = fact 8 data_base ∷ base
+facts1 = register_fact 8 data_base ∷ zero_register_fact
 
 abbrev facts3 : List RegisterFact
-facts3 = fact 16 1 ∷ facts1
+facts3 = register_fact 16 1 ∷ facts1
 
 abbrev facts4 : List RegisterFact
-facts4 = fact 17 data_base ∷ facts3
+facts4 = register_fact 17 data_base ∷ facts3
 
 abbrev facts5 : List RegisterFact
-facts5 = fact 18 8 ∷ facts4
+facts5 = register_fact 18 8 ∷ facts4
 
 abbrev facts6 : List RegisterFact
-facts6 = fact 0 4 ∷ facts5
+facts6 = register_fact 0 4 ∷ facts5
 
 abbrev facts8 : List RegisterFact
-facts8 = fact 16 0 ∷ base
+facts8 = register_fact 16 0 ∷ zero_register_fact
 
 abbrev facts9 : List RegisterFact
-facts9 = fact 0 1 ∷ facts8
+facts9 = register_fact 0 1 ∷ facts8
 
 -- ---- the store
 
@@ -147,27 +148,29 @@ store_leaves image facts mem s at none h =
 
 -- ---- the system calls
 
-wrote : (regs : List ℕ) (mem : List Block) (unique : ℕ) → reg regs 0 ≡ 4 → reg regs 16 ≡ 1 → reg regs 17 ≡ data_base
+callsys-write : (regs : List ℕ) (mem : List Block) (unique : ℕ) → reg regs 0 ≡ 4 → reg regs 16 ≡ 1
+    → reg regs 17 ≡ data_base
     → reg regs 18 ≡ 8
     → within (shapes mem) Load data_base 8 ≡ true
     → call Callsys regs mem unique []
     ≡ continues (put (put regs 0 8) 19 0) mem unique (Wrote (bytes_at mem data_base 8))
 unfolding call
-wrote regs mem unique number a0 a1 a2 readable = rw (number, a0, a1, a2, readable) refl
+callsys-write regs mem unique number a0 a1 a2 readable = rw (number, a0, a1, a2, readable) refl
 
-exited : (regs : List ℕ) (mem : List Block) (unique : ℕ) → reg regs 0 ≡ 1 → reg regs 16 ≡ 0
+callsys-exit : (regs : List ℕ) (mem : List Block) (unique : ℕ) → reg regs 0 ≡ 1 → reg regs 16 ≡ 0
     → call Callsys regs mem unique [] ≡ exits 0
 unfolding call
-exited regs mem unique number a0 = rw (number, a0) refl
+callsys-exit regs mem unique number a0 = rw (number, a0) refl
 
 write_leaves : (image : Parts) (mem : List Block) (s : State) → HoldsEight mem → HoldsFacts facts6 mem s
-    → LeavesFacts base mem (bytes_at mem data_base 8) s (step (wrapping image) (Some (barrier (Some Callsys))) s [])
+    → LeavesFacts zero_register_fact mem (bytes_at mem data_base 8) s
+    (step (wrapping image) (Some (barrier (Some Callsys))) s [])
 write_leaves image mem s eight h =
     let k = h.known in
     let readable : within (shapes s.mem) Load data_base 8 ≡ true =
     ap (λ (m : List Block). within (shapes m) Load data_base 8) h.memory ∙ eight.readable in
-    let does = wrote s.regs s.mem s.unique k.0 k.1.1.1.0 k.1.1.0 k.1.0 readable in
-    subst (λ (t : Stepped). LeavesFacts base mem (bytes_at mem data_base 8) s t)
+    let does = callsys-write s.regs s.mem s.unique k.0 k.1.1.1.0 k.1.1.0 k.1.0 readable in
+    subst (λ (t : Stepped). LeavesFacts zero_register_fact mem (bytes_at mem data_base 8) s t)
     (sym (ap (λ (c : Called). returned Callsys c s) does))
     (record {
       going = refl;
@@ -175,37 +178,39 @@ write_leaves image mem s eight h =
       puts = ap (λ (m : List Block). bytes_at m data_base 8) h.memory;
       there = record {
         size = length-put (put s.regs 0 8) 19 0 ∙ (length-put s.regs 0 8 ∙ h.size);
-        known = known_after base (put s.regs 0 8) 19 0 refl (known_after base s.regs 0 8 refl (k.1.1.1.1.1));
+        known =
+            known_after zero_register_fact (put s.regs 0 8) 19 0 refl
+            (known_after zero_register_fact s.regs 0 8 refl (k.1.1.1.1.1));
         memory = h.memory;
       };
     })
 
-copied : (level : Level) (a b old : ℕ) → a ≡ 0 → b ≡ data_base → result_of level Bis a b old ≡ data_base
+result_of-bis : (level : Level) (a b old : ℕ) → a ≡ 0 → b ≡ data_base → result_of level Bis a b old ≡ data_base
 unfolding result_of
-copied level a b old e f = ap (λ (x : ℕ). bit_or x b) e ∙ f
+result_of-bis level a b old e f = ap (λ (x : ℕ). bit_or x b) e ∙ f
 
 -- ---- the steps
 
-abbrev memory : ℕ → List Block
-memory n = start_memory (trial_image n)
+abbrev exit_memory : ℕ → List Block
+exit_memory n = start_memory (trial_image n)
 
 module _ (n : ℕ) (most : n ≤ 20000) where
   few : length (program_words n) ≤ 200000
   few = omega (arith, program_size n)
 
-  stage1 : Stage n (9 * n + 1) facts1 (memory n) []
+  stage1 : Stage n (9 * n + 1) facts1 (exit_memory n) []
   stage1 =
-      address_stage n (9 * n) (9 * n + 1) Ldah 8 31 (pos 4096) data_base base (memory n) [] most refl
+      address_stage n (9 * n) (9 * n + 1) Ldah 8 31 (pos 4096) data_base zero_register_fact (exit_memory n) [] most refl
       (words_are n).word0 (omega arith) refl
       (λ regs known. ap (λ (x : ℕ). high_address_of x (pos 4096)) known.0 ∙ numbers.data_start)
       (blocks_stage n (9 * n) most (omega arith))
 
   -- the state before the store
   abbrev before : State
-  before = (after (trial n) (start (trial n)) [] (9 * n + 1)).at.state
+  before = (after (trial_program n) (start (trial_program n)) [] (9 * n + 1)).at.state
 
   abbrev buffer : List Block
-  buffer = write_bytes (memory n) data_base (low_bytes 8 (reg before.regs 7))
+  buffer = write_bytes (exit_memory n) data_base (low_bytes 8 (reg before.regs 7))
 
   buffer_eight : HoldsEight buffer
   buffer_eight = buffer_written-HoldsEight (program_words n) 65536 (reg before.regs 7) few
@@ -215,9 +220,9 @@ module _ (n : ℕ) (most : n ≤ 20000) where
 
   stage2 : Stage n (9 * n + 2) facts1 buffer []
   stage2 =
-      next_stage n most (9 * n + 1) (9 * n + 2) (store data_access 7) facts1 facts1 (memory n) buffer [] []
+      next_stage n most (9 * n + 1) (9 * n + 2) (store data_access 7) facts1 facts1 (exit_memory n) buffer [] []
       (omega arith) (words_are n).word1 stage1
-      (store_leaves (trial_image n) facts1 (memory n) before stage1.here.known.0
+      (store_leaves (trial_image n) facts1 (exit_memory n) before stage1.here.known.0
       (buffer-fault_of (program_words n) 65536) stage1.here)
 
   stage3 : Stage n (9 * n + 3) facts3 buffer []
@@ -229,13 +234,13 @@ module _ (n : ℕ) (most : n ≤ 20000) where
 
   stage4 : Stage n (9 * n + 4) facts4 buffer []
   stage4 =
-      let s : State = (after (trial n) (start (trial n)) [] (9 * n + 3)).at.state in
+      let s : State = (after (trial_program n) (start (trial_program n)) [] (9 * n + 3)).at.state in
       let h = stage3.here in
       next_stage n most (9 * n + 3) (9 * n + 4) (operate Bis 31 (Reg 8) 17) facts3 facts4 buffer buffer [] []
       (omega arith) (words_are n).word3 stage3
       (setting_leaves facts3 buffer s 17 (result_of One Bis (reg s.regs 31) (reg s.regs 8) (reg s.regs 17)) data_base
       (omega arith) refl
-      (copied One (reg s.regs 31) (reg s.regs 8) (reg s.regs 17) h.known.1.1.0 h.known.1.0) h)
+      (result_of-bis One (reg s.regs 31) (reg s.regs 8) (reg s.regs 17) h.known.1.1.0 h.known.1.0) h)
 
   stage5 : Stage n (9 * n + 5) facts5 buffer []
   stage5 =
@@ -251,16 +256,17 @@ module _ (n : ℕ) (most : n ≤ 20000) where
       (λ regs known. low_address regs 4 4 numbers.four known.1.1.1.1.0)
       stage5
 
-  stage7 : Stage n (9 * n + 7) base buffer put_bytes
+  stage7 : Stage n (9 * n + 7) zero_register_fact buffer put_bytes
   stage7 =
-      let s : State = (after (trial n) (start (trial n)) [] (9 * n + 6)).at.state in
-      next_stage n most (9 * n + 6) (9 * n + 7) (barrier (Some Callsys)) facts6 base buffer buffer [] put_bytes
+      let s : State = (after (trial_program n) (start (trial_program n)) [] (9 * n + 6)).at.state in
+      next_stage n most (9 * n + 6) (9 * n + 7) (barrier (Some Callsys)) facts6 zero_register_fact buffer buffer
+      [] put_bytes
       (omega arith) (words_are n).word6 stage6
       (write_leaves (trial_image n) buffer s buffer_eight stage6.here)
 
   stage8 : Stage n (9 * n + 8) facts8 buffer put_bytes
   stage8 =
-      address_stage n (9 * n + 7) (9 * n + 8) Lda 16 31 (pos 0) 0 base buffer put_bytes most (omega arith)
+      address_stage n (9 * n + 7) (9 * n + 8) Lda 16 31 (pos 0) 0 zero_register_fact buffer put_bytes most (omega arith)
       (words_are n).word7 (omega arith) refl
       (λ regs known. low_address regs 0 0 numbers.zero_is known.0)
       stage7
@@ -273,13 +279,13 @@ module _ (n : ℕ) (most : n ≤ 20000) where
       stage8
 
   exit_step : (k : ℕ) (r : Run) → class_at (program_words n) k ≡ Some (barrier (Some Callsys))
-      → StageReached n k facts9 buffer put_bytes r → Exits (k + 1) (advance (trial n) r)
+      → StageReached n k facts9 buffer put_bytes r → Exits (k + 1) (advance (trial_program n) r)
   exit_step k r there s =
       let h = s.here in
       let t : Stepped = stepped r.at.state (Ends (Exit 0)) in
-      let ends : step (trial n) (Some (barrier (Some Callsys))) r.at.state [] ≡ t =
+      let ends : step (trial_program n) (Some (barrier (Some Callsys))) r.at.state [] ≡ t =
       ap (λ (c : Called). returned Callsys c r.at.state)
-      (exited r.at.state.regs r.at.state.mem r.at.state.unique h.known.0 h.known.1.0) in
+      (callsys-exit r.at.state.regs r.at.state.mem r.at.state.unique h.known.0 h.known.1.0) in
       subst (λ (q : Run). Exits (k + 1) q)
       (sym (advance-at_class n most k r (barrier (Some Callsys)) there s.going s.pc s.none))
       (subst (λ (x : Stepped). Exits (k + 1) (extended_by r x)) (sym ends)
@@ -291,20 +297,22 @@ module _ (n : ℕ) (most : n ≤ 20000) where
             ∙ buffer_eight.eight;
       }))
 
-  ends_there : Exits (9 * n + 10) (after (trial n) (start (trial n)) [] (9 * n + 10))
+  ends_there : Exits (9 * n + 10) (after (trial_program n) (start (trial_program n)) [] (9 * n + 10))
   ends_there =
-      subst (λ (m : ℕ). Exits m (after (trial n) (start (trial n)) [] m))
+      subst (λ (m : ℕ). Exits m (after (trial_program n) (start (trial_program n)) [] m))
       (let e : 9 * n + 9 + 1 ≡ 9 * n + 10 = omega arith in e)
       (subst (λ (q : Run). Exits (9 * n + 9 + 1) q)
-      (sym (ap (after (trial n) (start (trial n)) []) (add-one (9 * n + 9))))
-      (exit_step (9 * n + 9) (after (trial n) (start (trial n)) [] (9 * n + 9)) (words_are n).word9 stage9))
+      (sym (ap (after (trial_program n) (start (trial_program n)) []) (add-one (9 * n + 9))))
+      (exit_step (9 * n + 9) (after (trial_program n) (start (trial_program n)) [] (9 * n + 9))
+      (words_are n).word9 stage9))
 
 -- the run of enough steps is that of as many as the program has words
 pub run_is : (n units : ℕ) → n ≤ 20000 → 9 * n + 10 ≤ units
-    → sequential_run units (trial_image n) ≡ after (trial n) (start (trial n)) [] (9 * n + 10)
+    → sequential_run units (trial_image n) ≡ after (trial_program n) (start (trial_program n)) [] (9 * n + 10)
 unfolding sequential_run
 run_is n units most enough =
-    after-over (trial n) (start (trial n)) [] units (9 * n + 10) enough (ap is_over (ends_there n most).last)
+    after-over (trial_program n) (start (trial_program n)) [] units (9 * n + 10) enough
+    (ap is_over (ends_there n most).last)
 
 pub run_exits : (n units : ℕ) → n ≤ 20000 → 9 * n + 10 ≤ units
     → Exits (9 * n + 10) (sequential_run units (trial_image n))

@@ -21,19 +21,19 @@ with_words size =
 all_variables : (P : Segment → Type 0) → P variables → All P (variables ∷ [])
 all_variables P h = All-cons P variables [] h (All-nil P)
 
-apart : (size : ℕ) → size ≤ 180010 → AllPairs AreApart (regions (with_words size))
-apart size most zero zero d order below = absurd (omega arith)
-apart size most zero (suc zero) d order below = λ address code stack. omega arith
-apart size most zero (suc (suc zero)) d order below = λ address code segment. omega arith
-apart size most zero (suc (suc (suc j))) d order below = absurd (omega arith)
-apart size most (suc zero) zero d order below = absurd (omega arith)
-apart size most (suc zero) (suc zero) d order below = absurd (omega arith)
-apart size most (suc zero) (suc (suc zero)) d order below = λ address stack segment. omega arith
-apart size most (suc zero) (suc (suc (suc j))) d order below = absurd (omega arith)
-apart size most (suc (suc i)) j d order below = absurd (omega arith)
+regions-AreApart : (size : ℕ) → size ≤ 180010 → AllPairs AreApart (regions (with_words size))
+regions-AreApart size most zero zero d order below = absurd (omega arith)
+regions-AreApart size most zero (suc zero) d order below = λ address code stack. omega arith
+regions-AreApart size most zero (suc (suc zero)) d order below = λ address code segment. omega arith
+regions-AreApart size most zero (suc (suc (suc j))) d order below = absurd (omega arith)
+regions-AreApart size most (suc zero) zero d order below = absurd (omega arith)
+regions-AreApart size most (suc zero) (suc zero) d order below = absurd (omega arith)
+regions-AreApart size most (suc zero) (suc (suc zero)) d order below = λ address stack segment. omega arith
+regions-AreApart size most (suc zero) (suc (suc (suc j))) d order below = absurd (omega arith)
+regions-AreApart size most (suc (suc i)) j d order below = absurd (omega arith)
 
-fields : (size : ℕ) → 0 < size → size ≤ 180010 → FieldsFit (with_words size)
-fields size some most = record {
+FieldsFit-with_words : (size : ℕ) → 0 < size → size ≤ 180010 → FieldsFit (with_words size)
+FieldsFit-with_words size some most = record {
   code_base = (refl, omega arith);
   data_bases = (all_variables (λ s. IsBase s.base) (refl, omega arith), λ k below. absurd (omega arith));
   words = (some, omega arith, omega arith);
@@ -41,7 +41,7 @@ fields size some most = record {
   zeroed = (omega arith, all_variables (λ s. s.base + size_of_segment s ≤ 2 ^ 30) (omega arith));
   stack = (omega arith, omega arith, refl);
   entry = (refl, (omega arith, omega arith));
-  regions = apart size most;
+  regions = regions-AreApart size most;
   level = inl refl;
   segments = omega arith;
 }
@@ -51,7 +51,7 @@ image_good n most =
     let size = program_size n in
     record {
       version = (refl, refl);
-      fields = fields (length (program_words n)) (omega arith) (omega arith);
+      fields = FieldsFit-with_words (length (program_words n)) (omega arith) (omega arith);
       words = program_fine n;
       bytes = All-nil IsByte;
       filled = refl;

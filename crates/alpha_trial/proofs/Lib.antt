@@ -1,12 +1,12 @@
 pub mod BlockBytes
 pub mod DecodedProgram
-pub mod Shadows
+pub mod TrialShadows
 pub mod WordCounts
 pub mod GoodImage
 pub mod RunTotals
 pub mod OverflowDraws
-pub mod Buffer
-pub mod Stages
+pub mod DataBuffer
+pub mod RunStages
 pub mod StepsWithoutEffect
 pub mod ExitBlock
-pub mod Alike
+pub mod TrialRunsAlike

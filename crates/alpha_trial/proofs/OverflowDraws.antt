@@ -16,7 +16,7 @@ use Rattle.alpha_trap.specs.Scan.{scan}
 use Rattle.alpha_imprecise.specs.StepResult.{Trap, Choice, Precisely, Reported, StepResult, step_result}
 use Rattle.alpha_imprecise.specs.Step.{triggers, triggered, precisely, completed, landed, report, address_at, can_wait}
 use Rattle.alpha_imprecise.specs.Step.{unpredictable_state, unpredictable_conditional, waited, imprecise_step_at}
-use Rattle.alpha_imprecise.proofs.Landed.{report_at}
+use Rattle.alpha_imprecise.proofs.ReportLandings.{report_at}
 use Rattle.alpha_imprecise.specs.Run.{finished}
 use Rattle.alpha_imprecise.specs.Chosen.{most_waited, first_word, triggering, reporting, draw_at, draw, chosen}
 use Rattle.alpha_imprecise.specs.ChosenRun.{ChosenRun, begun, advance_chosen_run, is_settled, settled_within}
@@ -24,13 +24,13 @@ use Rattle.alpha_imprecise.specs.ChosenRun.{chosen_run}
 use Rattle.alpha_imprecise.proofs.PendingTraps.{stepped_chosen_run}
 
 -- one for a trap that is pending
-abbrev owed : Option Trap → ℕ
-owed None = 0
-owed (Some t) = 1
+abbrev pending_draws : Option Trap → ℕ
+pending_draws None = 0
+pending_draws (Some t) = 1
 
 -- the overflows that were logged, and one that will be
-abbrev total : StepResult → ℕ
-total m = m.state.count + owed m.pending
+abbrev overflow_draws : StepResult → ℕ
+overflow_draws m = m.state.count + pending_draws m.pending
 
 -- ---- a precise step that doesn't overflow logs nothing
 
@@ -67,31 +67,31 @@ same_count g (Some (barrier (Some function))) s input e = same_returned function
 same_count g (Some idle) s input e = refl
 
 free_total : (g : Program) (o : Option Class) (s : State) (n : ℕ) (words input : List ℕ)
-    → total (imprecise_step_at g o s None (draw_at o s None n words).choice input)
+    → overflow_draws (imprecise_step_at g o s None (draw_at o s None n words).choice input)
     ≤ s.count + (draw_at o s None n words).count
 free_total g o s n words input = by (triggers o s) refl
   where
     by : (b : Bool) → triggers o s ≡ b
-        → total (cond b (triggered g o s (draw_at o s None n words).choice) (precisely (step g o s input)))
+        → overflow_draws (cond b (triggered g o s (draw_at o s None n words).choice) (precisely (step g o s input)))
         ≤ s.count + (cond b (triggering (first_word words)) (reporting 0)).count
     by true e = omega arith
     by false e = let same = same_count g o s input e in omega arith
 
 -- ---- a step with a trap pending
 
-landed_total : (g : Program) (s : State) (at : ℕ) → total (landed g s at) ≤ s.count + 1
+landed_total : (g : Program) (s : State) (at : ℕ) → overflow_draws (landed g s at) ≤ s.count + 1
 landed_total g s at = by (stops g.completion)
   where
-    by : (b : Bool) → total (cond b (step_result (record s { pc = address_at g.image at }) None
+    by : (b : Bool) → overflow_draws (cond b (step_result (record s { pc = address_at g.image at }) None
         (Precisely (Ends (Overflow (address_at g.image at)))))
         (step_result (completed g s at) None (Reported (address_at g.image at)))) ≤ s.count + 1
     by true = omega arith
     by false = omega arith
 
-report_total : (g : Program) (s : State) (t : Trap) → total (report g s t) ≤ s.count + 1
+report_total : (g : Program) (s : State) (t : Trap) → overflow_draws (report g s t) ≤ s.count + 1
 report_total g s t = by (scan g.image s.pc t.mask)
   where
-    by : (o : Option ℕ) → total (report_at g s t o) ≤ s.count + 1
+    by : (o : Option ℕ) → overflow_draws (report_at g s t o) ≤ s.count + 1
     by None = omega arith
     by (Some at) = landed_total g s at
 
@@ -112,42 +112,44 @@ spoilt_count (Some (branch (Some condition) ra disp)) s c = refl
 spoilt_count o s c = refl
 
 trap_total : (g : Program) (o : Option Class) (s : State) (t : Trap) (c : Choice) (input : List ℕ)
-    → total (imprecise_step_at g o s (Some t) c input) ≤ s.count + 1
+    → overflow_draws (imprecise_step_at g o s (Some t) c input) ≤ s.count + 1
 trap_total g o s t c input = by (c.report || not (can_wait o s))
   where
-    by : (b : Bool) → total (cond b (report g s t) (waited o s t c)) ≤ s.count + 1
+    by : (b : Bool) → overflow_draws (cond b (report g s t) (waited o s t c)) ≤ s.count + 1
     by true = report_total g s t
     by false = let same = spoilt_count o s c in omega arith
 
 -- ---- runs
 
 chosen_total : (g : Program) (s : State) (pending : Option Trap) (n : ℕ) (words input : List ℕ)
-    → total (chosen g s pending n words input) ≤ s.count + owed pending + (draw g s pending n words).count
+    → overflow_draws (chosen g s pending n words input)
+    ≤ s.count + pending_draws pending + (draw g s pending n words).count
 chosen_total g s None n words input = let one = free_total g (next_class g s.pc) s n words input in omega arith
 chosen_total g s (Some t) n words input =
     let one = trap_total g (next_class g s.pc) s t (draw g s (Some t) n words).choice input in omega arith
 
 -- a run has drawn a word for each overflow beyond so many
-abbrev Paid : ℕ → ChosenRun → Type 0
-Paid first k = k.run.at.state.count + owed k.run.at.pending ≤ first + k.count
+abbrev HasDrawnForEach : ℕ → ChosenRun → Type 0
+HasDrawnForEach first k = k.run.at.state.count + pending_draws k.run.at.pending ≤ first + k.count
 
-either : (first : ℕ) (b : Bool) (k l : ChosenRun) → Paid first k → Paid first l → Paid first (cond b k l)
-either first true k l p q = p
-either first false k l p q = q
+HasDrawnForEach-cond : (first : ℕ) (b : Bool) (k l : ChosenRun) → HasDrawnForEach first k → HasDrawnForEach first l
+    → HasDrawnForEach first (cond b k l)
+HasDrawnForEach-cond first true k l p q = p
+HasDrawnForEach-cond first false k l p q = q
 
 module _ (g : Program) (first : ℕ) where
-  step_pays : (k : ChosenRun) → Paid first k → Paid first (advance_chosen_run g k)
+  step_pays : (k : ChosenRun) → HasDrawnForEach first k → HasDrawnForEach first (advance_chosen_run g k)
   step_pays k h =
       let more = chosen_total g k.run.at.state k.run.at.pending k.waited k.words k.run.left in
-      either first (finished k.run.at.last_event) k (stepped_chosen_run g k) h (omega arith)
+      HasDrawnForEach-cond first (finished k.run.at.last_event) k (stepped_chosen_run g k) h (omega arith)
 
-  settling_pays : (fuel : ℕ) (k : ChosenRun) → Paid first k → Paid first (settled_within fuel g k)
+  settling_pays : (fuel : ℕ) (k : ChosenRun) → HasDrawnForEach first k → HasDrawnForEach first (settled_within fuel g k)
   settling_pays zero k h = h
   settling_pays (suc fuel) k h =
-      either first (is_settled k) k (settled_within fuel g (advance_chosen_run g k)) h
+      HasDrawnForEach-cond first (is_settled k) k (settled_within fuel g (advance_chosen_run g k)) h
       (settling_pays fuel (advance_chosen_run g k) (step_pays k h))
 
-  run_pays : (k : ChosenRun) (n : ℕ) → Paid first k → Paid first (chosen_run g k n)
+  run_pays : (k : ChosenRun) (n : ℕ) → HasDrawnForEach first k → HasDrawnForEach first (chosen_run g k n)
   run_pays k zero h = settling_pays (most_waited + 1) k h
   run_pays k (suc n) h =
       settling_pays (most_waited + 1) (advance_chosen_run g (chosen_run g k n))

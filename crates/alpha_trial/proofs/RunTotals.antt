@@ -17,7 +17,7 @@ use Rattle.alpha_imprecise.specs.Run.{seen}
 use Rattle.alpha_imprecise.specs.ChosenRun.{ChosenRun, begun, chosen_run, first_words, most_words}
 use Rattle.alpha_imprecise.specs.Oracle.{Oracle}
 use Rattle.alpha_imprecise.specs.ImpreciseState.{ImpreciseState, trap_in, waited_in, begun_at}
-use Rattle.alpha_imprecise.proofs.Fresh.{told_starts}
+use Rattle.alpha_imprecise.proofs.FreshRuns.{told_starts}
 use Rattle.alpha_run.specs.SeqRun.{SeqRan}
 use Rattle.alpha_run.specs.ImpreciseRan.{ImpreciseRanAs}
 use Rattle.alpha_run.proofs.SeqShown as sequential

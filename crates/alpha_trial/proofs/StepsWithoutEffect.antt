@@ -25,9 +25,10 @@ use Rattle.alpha_trial.specs.Program.{seeded}
 use Rattle.alpha_trial.specs.Words.{block_words, blocks_words, ending_words, program_words, trial_image}
 use Rattle.alpha_trial.specs.Report.{wrapping}
 use Rattle.alpha_trial.proofs.DecodedProgram.{class_first, class_second}
-use Rattle.alpha_trial.proofs.Shadows.{behind_at}
+use Rattle.alpha_trial.proofs.TrialShadows.{behind_at}
 use Rattle.alpha_trial.proofs.GoodImage.{image_good}
-use Rattle.alpha_trial.proofs.Stages.{RegisterFact, fact, HoldsFacts, LeavesFacts, Stage, trial, next_stage}
+use Rattle.alpha_trial.proofs.RunStages.{RegisterFact, register_fact, HoldsFacts, LeavesFacts, Stage, trial_program}
+use Rattle.alpha_trial.proofs.RunStages.{next_stage}
 
 -- ---- quiet words
 
@@ -47,43 +48,44 @@ has_no_effect (barrier (Some call)) = false
 has_no_effect idle = true
 
 -- R31 is 0
-abbrev pub base : List RegisterFact
-base = fact 31 0 ∷ []
+abbrev pub zero_register_fact : List RegisterFact
+zero_register_fact = register_fact 31 0 ∷ []
 
 set_holds : (mem : List Block) (s t : State) (r v : ℕ) → t.regs ≡ put s.regs r v → t.mem ≡ s.mem
-    → HoldsFacts base mem s → HoldsFacts base mem t
+    → HoldsFacts zero_register_fact mem s → HoldsFacts zero_register_fact mem t
 set_holds mem s t r v regs memory h = record {
   size = ap length regs ∙ (length-put s.regs r v ∙ h.size);
   known = (ap (λ (file : List ℕ). reg file 31) regs ∙ (reg-put_unset s.regs r 31 v (never_zero r) ∙ h.known.0), tt);
   memory = memory ∙ h.memory;
 }
 
-set_leaves : (mem : List Block) (s : State) (r v : ℕ) → HoldsFacts base mem s
-    → LeavesFacts base mem [] s (went (setting s r v))
+set_leaves : (mem : List Block) (s : State) (r v : ℕ) → HoldsFacts zero_register_fact mem s
+    → LeavesFacts zero_register_fact mem [] s (went (setting s r v))
 set_leaves mem s r v h =
     record { going = refl; pc = refl; puts = refl; there = set_holds mem s (setting s r v) r v refl refl h }
 
-log_leaves : (mem : List Block) (s : State) (r v : ℕ) → HoldsFacts base mem s
-    → LeavesFacts base mem [] s (stepped (logging s r v) (Overflowed s.pc))
+log_leaves : (mem : List Block) (s : State) (r v : ℕ) → HoldsFacts zero_register_fact mem s
+    → LeavesFacts zero_register_fact mem [] s (stepped (logging s r v) (Overflowed s.pc))
 log_leaves mem s r v h =
     record { going = refl; pc = refl; puts = refl; there = set_holds mem s (logging s r v) r v refl refl h }
 
-idle_leaves : (mem : List Block) (s : State) (image : Parts) → HoldsFacts base mem s
-    → LeavesFacts base mem [] s (step (wrapping image) (Some idle) s [])
-    × LeavesFacts base mem [] s (step (wrapping image) (Some (barrier None)) s [])
+idle_leaves : (mem : List Block) (s : State) (image : Parts) → HoldsFacts zero_register_fact mem s
+    → LeavesFacts zero_register_fact mem [] s (step (wrapping image) (Some idle) s [])
+    × LeavesFacts zero_register_fact mem [] s (step (wrapping image) (Some (barrier None)) s [])
 idle_leaves mem s image h =
-    let there : HoldsFacts base mem (onward s) = record { size = h.size; known = h.known; memory = h.memory } in (
+    let there : HoldsFacts zero_register_fact mem (onward s) =
+    record { size = h.size; known = h.known; memory = h.memory } in (
       record { going = refl; pc = refl; puts = refl; there = there },
       record { going = refl; pc = refl; puts = refl; there = there },
     )
 
 quiet_leaves : (image : Parts) (c : Class) (mem : List Block) (s : State) → has_no_effect c ≡ true
-    → HoldsFacts base mem s
-    → LeavesFacts base mem [] s (step (wrapping image) (Some c) s [])
+    → HoldsFacts zero_register_fact mem s
+    → LeavesFacts zero_register_fact mem [] s (step (wrapping image) (Some c) s [])
 quiet_leaves image (operate op ra src rc) mem s e h = set_leaves mem s rc _ h
 quiet_leaves image (trigger op ra src rc) mem s e h = by (overflow_of op (reg s.regs ra) (source_value s.regs src))
   where
-    by : (b : Bool) → LeavesFacts base mem [] s (cond b
+    by : (b : Bool) → LeavesFacts zero_register_fact mem [] s (cond b
         (stepped (logging s rc (completed_of op (reg s.regs ra) (source_value s.regs src) Wrap)) (Overflowed s.pc))
         (went (setting s rc (completed_of op (reg s.regs ra) (source_value s.regs src) Wrap))))
     by true = log_leaves mem s rc (completed_of op (reg s.regs ra) (source_value s.regs src) Wrap) h
@@ -158,10 +160,11 @@ ending_class n j = behind_blocks n j (seeded n) ending_words
 
 -- ---- the blocks' steps
 
-start_holds : (n : ℕ) → n ≤ 20000 → HoldsFacts base (start_memory (trial_image n)) (start (trial n))
+start_holds : (n : ℕ) → n ≤ 20000
+    → HoldsFacts zero_register_fact (start_memory (trial_image n)) (start (trial_program n))
 unfolding start_regs reg put
 start_holds n most = record {
-  size = (ready_start (trial n) (image_good n most)).size;
+  size = (ready_start (trial_program n) (image_good n most)).size;
   known = (refl, tt);
   memory = refl;
 }
@@ -171,12 +174,13 @@ unfolding program_words
 program-has_no_effect n k low = NoEffectBlock-at n k (seeded n) ending_words low
 
 -- where the run stands in the blocks, and behind the last one
-pub blocks_stage : (n k : ℕ) → n ≤ 20000 → k ≤ 9 * n → Stage n k base (start_memory (trial_image n)) []
+pub blocks_stage : (n k : ℕ) → n ≤ 20000 → k ≤ 9 * n → Stage n k zero_register_fact (start_memory (trial_image n)) []
 blocks_stage n zero most low =
     record { steps = refl; going = refl; pc = refl; none = refl; puts = refl; here = start_holds n most }
 blocks_stage n (suc k) most low =
     let q = program-has_no_effect n k (omega arith) in
     let s = blocks_stage n k most (omega arith) in
     let mem = start_memory (trial_image n) in
-    next_stage n most k (suc k) q.class base base mem mem [] [] (sym (add-one k)) q.is s
-    (quiet_leaves (trial_image n) q.class mem (after (trial n) (start (trial n)) [] k).at.state q.quiet s.here)
+    next_stage n most k (suc k) q.class zero_register_fact zero_register_fact mem mem [] [] (sym (add-one k)) q.is s
+    (quiet_leaves (trial_image n) q.class mem
+    (after (trial_program n) (start (trial_program n)) [] k).at.state q.quiet s.here)

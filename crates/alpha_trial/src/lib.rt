@@ -14,13 +14,13 @@
 //! `src/program.rt` makes the program, `src/runs.rt` runs it and says how many units were used, `src/report.rt` writes
 //! the lines, and `src/trials.rt` puts them together.
 //!
-//! In `proofs/`, `DecodedProgram.antt` ties words to instructions, `Shadows.antt` shows that the program is accepted,
-//! `WordCounts.antt` and `GoodImage.antt` the other laws, and `RunTotals.antt` says what was counted in the code's
-//! runs.
-//! `Stages.antt` says where the sequential run stands after so many steps, `StepsWithoutEffect.antt` takes it through
-//! the blocks,
-//! `Buffer.antt` and `ExitBlock.antt` through the words behind them; `OverflowDraws.antt` counts what an imprecise run
-//! draws, and `Alike.antt` has both runs.
+//! In `proofs/`, `DecodedProgram.antt` ties words to instructions, `TrialShadows.antt` shows that the program is
+//! accepted, `WordCounts.antt` and `GoodImage.antt` the other laws, and `RunTotals.antt` says what was counted in the
+//! code's runs.
+//! `RunStages.antt` says where the sequential run stands after so many steps, `StepsWithoutEffect.antt` takes it
+//! through the blocks,
+//! `DataBuffer.antt` and `ExitBlock.antt` through the words behind them; `OverflowDraws.antt` counts what an imprecise
+//! run draws, and `TrialRunsAlike.antt` has both runs.
 #![tactic(auto)]
 
 mod laws;

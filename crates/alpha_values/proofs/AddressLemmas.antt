@@ -9,29 +9,30 @@ use Rattle.alpha_table.specs.Spans.{bytes_spanned}
 use Rattle.alpha_table.specs.Uses.{first_byte}
 use Rattle.alpha_values.specs.Address.{address_of, access_address, Covers, AccessesMeet}
 use Rattle.alpha_values.specs.InSpan.{IsInSpan}
-use Rattle.alpha_values.proofs.Words.{register_is, register_bound}
+use Rattle.alpha_values.proofs.MachineWords.{register_is, register_bound}
 
 -- a displacement, counted from the lowest one
-raised : ℤ → ℕ
-raised (pos n) = n + 32768
-raised (negsuc n) = 32767 - n
+displacement_from_lowest : ℤ → ℕ
+displacement_from_lowest (pos n) = n + 32768
+displacement_from_lowest (negsuc n) = 32767 - n
 
-raised_is : (d : ℤ) → FitsSigned w16 d → (pos (raised d) ≡ d +ℤ pos 32768) × (raised d < 65536)
-unfolding raised
+raised_is : (d : ℤ) → FitsSigned w16 d
+    → (pos (displacement_from_lowest d) ≡ d +ℤ pos 32768) × (displacement_from_lowest d < 65536)
+unfolding displacement_from_lowest
 raised_is (pos n) fits = let h = fits.sfits in (omega (arith, ints), omega arith)
 raised_is (negsuc n) fits = let h = fits.sfits in (omega (arith, ints), omega arith)
 
 address_raised : (base : ℕ) (d : ℤ) → FitsSigned w16 d
-    → address_of base d ≡ (base + (2 ^ 64 - 32768) + raised d) % 2 ^ 64
+    → address_of base d ≡ (base + (2 ^ 64 - 32768) + displacement_from_lowest d) % 2 ^ 64
 unfolding address_of
 address_raised base d fits =
     let is = (raised_is d fits).0 in
-    register_is (pos base +ℤ d) 1 (base + (2 ^ 64 - 32768) + raised d) (omega (arith, ints))
+    register_is (pos base +ℤ d) 1 (base + (2 ^ 64 - 32768) + displacement_from_lowest d) (omega (arith, ints))
 
 -- where two addresses by one base lie in memory, they lie as far apart as their displacements
 as_far : (base : ℕ) (d e : ℤ) → base < 2 ^ 64 → FitsSigned w16 d → FitsSigned w16 e
     → address_of base d < 2 ^ 31 → address_of base e < 2 ^ 31
-    → address_of base d + raised e ≡ address_of base e + raised d
+    → address_of base d + displacement_from_lowest e ≡ address_of base e + displacement_from_lowest d
 as_far base d e small fits also low under =
     omega (arith, address_raised base d fits, address_raised base e also, (raised_is d fits).1, (raised_is e also).1)
 
@@ -81,12 +82,13 @@ in_memory c base h =
 
 -- a displacement below another and some bytes
 below_end : (clears : Bool) (d e : ℤ) (n : ℕ) → FitsSigned w16 d → FitsSigned w16 e
-    → raised d < raised e + n + cond clears 7 0 → cond clears (d -ℤ pos 7) d <ℤ (e +ℤ pos n)
+    → displacement_from_lowest d < displacement_from_lowest e + n + cond clears 7 0
+    → cond clears (d -ℤ pos 7) d <ℤ (e +ℤ pos n)
 below_end true d e n fits also h = let p = (raised_is d fits).0 in let q = (raised_is e also).0 in omega (arith, ints)
 below_end false d e n fits also h = let p = (raised_is d fits).0 in let q = (raised_is e also).0 in omega (arith, ints)
 
 below_end-back : (clears : Bool) (d e : ℤ) (n : ℕ) → FitsSigned w16 d → FitsSigned w16 e → clears ≡ false
-    → cond clears (d -ℤ pos 7) d <ℤ (e +ℤ pos n) → raised d < raised e + n
+    → cond clears (d -ℤ pos 7) d <ℤ (e +ℤ pos n) → displacement_from_lowest d < displacement_from_lowest e + n
 below_end-back true d e n fits also none h = absurd cc
 below_end-back false d e n fits also none h =
     let p = (raised_is d fits).0 in
@@ -95,7 +97,8 @@ below_end-back false d e n fits also none h =
 
 -- where a byte of a isn't past the end of b, a begins below b's end
 one_end : (a b : MemAccess) (base y : ℕ) → FitsSigned w16 a.disp → FitsSigned w16 b.disp
-    → address_of base a.disp + raised b.disp ≡ address_of base b.disp + raised a.disp
+    → address_of base a.disp + displacement_from_lowest b.disp
+    ≡ address_of base b.disp + displacement_from_lowest a.disp
     → access_address a base ≤ y → y < access_address b base + b.bytes
     → (bytes_spanned a).low <ℤ (bytes_spanned b).high
 one_end a b base y fits also far from below =
@@ -137,9 +140,9 @@ first_in_span : (c : MemAccess) → 0 < c.bytes → first_byte c <ℤ (c.disp +�
 first_in_span c some = first_below c.clears c.disp c.bytes some
 
 -- spans that meet have a byte in common, the later one of their first bytes
-common : (a b : MemAccess) → 0 < a.bytes → 0 < b.bytes → AccessesMeet a b
+AccessesMeet-common_byte : (a b : MemAccess) → 0 < a.bytes → 0 < b.bytes → AccessesMeet a b
     → (distance : ℤ) × IsInSpan a distance × IsInSpan b distance
-common a b some some_too h =
+AccessesMeet-common_byte a b some some_too h =
     let first = first_in_span a some in
     let first_too = first_in_span b some_too in
     by_lt_z (first_byte a) (first_byte b)
@@ -156,4 +159,4 @@ address-meet a b (x, one, other) =
 
 pub meeting-common : (a b : MemAccess) → 0 < a.bytes → 0 < b.bytes
     → (AccessesMeet a b ↔ ((distance : ℤ) × IsInSpan a distance × IsInSpan b distance))
-meeting-common a b some some_too = (common a b some some_too, address-meet a b)
+meeting-common a b some some_too = (AccessesMeet-common_byte a b some some_too, address-meet a b)

@@ -8,7 +8,7 @@ use Rattle.std.proofs.Math.Nat.{mod-eq_of_lt}
 use Rattle.std.proofs.Math.Pow.{mod-mod-pow}
 use Rattle.alpha_words.specs.Digits.{digits, number}
 use Rattle.alpha_values.specs.Bits.{bytes_of}
-use Rattle.alpha_values.specs.Op.{complement, extracted_low, extracted_high, inserted, marked, zapped}
+use Rattle.alpha_values.specs.Op.{complement, extracted_low, extracted_high, inserted, byte_mask, zapped}
 use Rattle.alpha_values.specs.Lists.{inverted, in_sixteen, bytes_from, bytes_above, low_placed, high_placed, cleared}
 use Rattle.alpha_values.specs.Lists.{low_cleared, high_cleared}
 use Rattle.alpha_words.proofs.DigitLemmas.{AllBelow, number-digits, digits-AllBelow, number-take, number-drop}
@@ -108,7 +108,7 @@ ones-AllBelow : (count : ℕ) → AllBelow 2 (replicate count 1)
 ones-AllBelow zero = tt
 ones-AllBelow (suc count) = (omega arith, ones-AllBelow count)
 
-number-marks : (size b : ℕ) → number 2 (in_sixteen (b % 8) (replicate size 1)) ≡ marked size b
+number-marks : (size b : ℕ) → number 2 (in_sixteen (b % 8) (replicate size 1)) ≡ byte_mask size b
 number-marks size b =
     let n = b % 8 in
     let once : 1 * n ≡ n = omega arith in
@@ -122,31 +122,31 @@ length-marks size b within = simp (length-append, length-replicate) (omega arith
 marks-AllBelow : (size b : ℕ) → AllBelow 2 (in_sixteen (b % 8) (replicate size 1))
 marks-AllBelow size b = in_sixteen-AllBelow 1 (b % 8) (replicate size 1) (ones-AllBelow size)
 
-pub masked_low_is : (size a b : ℕ) → size ≤ 8 → zapped a (marked size b) ≡ low_cleared size a b
+pub masked_low_is : (size a b : ℕ) → size ≤ 8 → zapped a (byte_mask size b) ≡ low_cleared size a b
 unfolding low_cleared
 masked_low_is size a b within =
     let marks = in_sixteen (b % 8) (replicate size 1) in
     let long = length-marks size b within in
-    zapped_is a (marked size b)
+    zapped_is a (byte_mask size b)
     ∙ ap (λ xs. cleared xs a)
     (ap (λ m. digits 2 8 m) (sym (number-marks size b)) ∙ digits-number 1 8 marks (marks-AllBelow size b) (omega arith))
 
-pub masked_high_is : (size a b : ℕ) → size ≤ 8 → zapped a (marked size b / 2 ^ 8) ≡ high_cleared size a b
+pub masked_high_is : (size a b : ℕ) → size ≤ 8 → zapped a (byte_mask size b / 2 ^ 8) ≡ high_cleared size a b
 unfolding high_cleared
 masked_high_is size a b within =
     let marks = in_sixteen (b % 8) (replicate size 1) in
     let high = drop 8 marks in
     let long : length high ≡ 8 = omega (arith, length-drop 8 marks, length-marks size b within) in
-    let n : marked size b / 2 ^ 8 ≡ number 2 high =
+    let n : byte_mask size b / 2 ^ 8 ≡ number 2 high =
     ap (λ m. m / 2 ^ 8) (sym (number-marks size b)) ∙ sym (number-drop 1 8 marks (marks-AllBelow size b)) in
-    zapped_is a (marked size b / 2 ^ 8)
+    zapped_is a (byte_mask size b / 2 ^ 8)
     ∙ ap (λ xs. cleared xs a)
     (ap (λ m. digits 2 8 m) n
     ∙ (digits-number 1 8 high (AllBelow-drop 2 8 marks (marks-AllBelow size b)) (omega arith)
     ∙ take_all 8 high (omega arith)))
 
 -- the marks as the code shifts them
-pub marked_is : (size b : ℕ) → size ≤ 8 → (1 * 2 ^ size % 2 ^ 64 - 1) * 2 ^ (b % 8) % 2 ^ 64 ≡ marked size b
+pub marked_is : (size b : ℕ) → size ≤ 8 → (1 * 2 ^ size % 2 ^ 64 - 1) * 2 ^ (b % 8) % 2 ^ 64 ≡ byte_mask size b
 marked_is size b within =
     let one = one_shl size 64 (omega arith) in
     let most = pow_below size 9 (omega arith) in

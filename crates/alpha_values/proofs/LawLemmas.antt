@@ -15,7 +15,7 @@ use Rattle.alpha_table.specs.Op.{trap_of}
 use Rattle.alpha_values.specs.Numbers.{register_of}
 use Rattle.alpha_values.specs.TrapOp.{size_of, exact, overflow_of, Overflows, completion_of, completed_of}
 use Rattle.alpha_values.specs.Op.{result_of}
-use Rattle.alpha_values.proofs.Ranges.{overflow_is}
+use Rattle.alpha_values.proofs.SignedRanges.{overflow_is}
 
 pub completed-wrap : (level : Level) (op : Op) (trap : TrapOp) (a b old : ℕ) → trap_of op ≡ Some trap
     → completed_of trap a b Wrap ≡ result_of level op a b old

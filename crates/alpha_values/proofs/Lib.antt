@@ -1,11 +1,11 @@
-pub mod Words
+pub mod MachineWords
 pub mod PairLemmas
 pub mod BitLemmas
 pub mod ByteLemmas
 pub mod PlaceLemmas
-pub mod Ranges
+pub mod SignedRanges
 pub mod CountLemmas
-pub mod Bounds
+pub mod ResultBounds
 pub mod LawLemmas
 pub mod ListLemmas
 pub mod AddressLemmas

@@ -45,8 +45,8 @@ implementation One = 1
 implementation Two = 2
 
 -- Rb where Ra meets the condition
-abbrev pub moved : Cond → ℕ → ℕ → ℕ → ℕ
-moved c a b old = if is_taken c a then b else old
+abbrev pub cmov_result : Cond → ℕ → ℕ → ℕ → ℕ
+cmov_result c a b old = if is_taken c a then b else old
 
 -- EXTxL: Ra shifted right to the byte that Rb names, of which as many low bytes stay as the size has
 abbrev pub extracted_low : ℕ → ℕ → ℕ → ℕ
@@ -61,8 +61,8 @@ abbrev pub inserted : ℕ → ℕ → ℕ → ℕ
 inserted size a b = 2 ^ (8 * (b % 8)) * (a % 2 ^ (8 * size))
 
 -- a mark for each of the size's bytes from Rb's on: MSKxL clears by the low and MSKxH by the high eight of these
-abbrev pub marked : ℕ → ℕ → ℕ
-marked size b = 2 ^ (b % 8) * (2 ^ size - 1)
+abbrev pub byte_mask : ℕ → ℕ → ℕ
+byte_mask size b = 2 ^ (b % 8) * (2 ^ size - 1)
 
 -- ZAP: the bytes of Ra whose mark is 1 become 0
 unfoldable pub zapped : ℕ → ℕ → ℕ
@@ -114,14 +114,14 @@ result_of level Ctpop a b old = sum (bits_of b)
 result_of level Ctlz a b old = zeros_before_one (reverse (bits_of b))
 result_of level Cttz a b old = zeros_before_one (bits_of b)
 -- conditional moves
-result_of level Cmovlbs a b old = moved Lbs a b old
-result_of level Cmovlbc a b old = moved Lbc a b old
-result_of level Cmoveq a b old = moved Eq a b old
-result_of level Cmovne a b old = moved Ne a b old
-result_of level Cmovlt a b old = moved Lt a b old
-result_of level Cmovle a b old = moved Le a b old
-result_of level Cmovge a b old = moved Ge a b old
-result_of level Cmovgt a b old = moved Gt a b old
+result_of level Cmovlbs a b old = cmov_result Lbs a b old
+result_of level Cmovlbc a b old = cmov_result Lbc a b old
+result_of level Cmoveq a b old = cmov_result Eq a b old
+result_of level Cmovne a b old = cmov_result Ne a b old
+result_of level Cmovlt a b old = cmov_result Lt a b old
+result_of level Cmovle a b old = cmov_result Le a b old
+result_of level Cmovge a b old = cmov_result Ge a b old
+result_of level Cmovgt a b old = cmov_result Gt a b old
 -- shifts, by Rb modulo 64
 result_of level Sll a b old = a * 2 ^ (b % 64) % 2 ^ 64
 result_of level Srl a b old = a / 2 ^ (b % 64)
@@ -141,12 +141,12 @@ result_of level Insql a b old = inserted 8 a b % 2 ^ 64
 result_of level Inswh a b old = inserted 2 a b / 2 ^ 64
 result_of level Inslh a b old = inserted 4 a b / 2 ^ 64
 result_of level Insqh a b old = inserted 8 a b / 2 ^ 64
-result_of level Mskbl a b old = zapped a (marked 1 b)
-result_of level Mskwl a b old = zapped a (marked 2 b)
-result_of level Mskll a b old = zapped a (marked 4 b)
-result_of level Mskql a b old = zapped a (marked 8 b)
-result_of level Mskwh a b old = zapped a (marked 2 b / 2 ^ 8)
-result_of level Msklh a b old = zapped a (marked 4 b / 2 ^ 8)
-result_of level Mskqh a b old = zapped a (marked 8 b / 2 ^ 8)
+result_of level Mskbl a b old = zapped a (byte_mask 1 b)
+result_of level Mskwl a b old = zapped a (byte_mask 2 b)
+result_of level Mskll a b old = zapped a (byte_mask 4 b)
+result_of level Mskql a b old = zapped a (byte_mask 8 b)
+result_of level Mskwh a b old = zapped a (byte_mask 2 b / 2 ^ 8)
+result_of level Msklh a b old = zapped a (byte_mask 4 b / 2 ^ 8)
+result_of level Mskqh a b old = zapped a (byte_mask 8 b / 2 ^ 8)
 result_of level Zap a b old = zapped a b
 result_of level Zapnot a b old = zapped a (complement b)

@@ -1,5 +1,5 @@
 ghost use Rattle.std.specs.Prelude.{◌≡◌, ◌*◌, ◌/◌, ◌%◌, ◌^◌, ◌<◌, ◌≤◌, ◌==◌, nat_le, if◌then◌else◌};
-ghost use Rattle.alpha_values.specs.Op.{complement, extracted_low, extracted_high, inserted, marked, zapped};
+ghost use Rattle.alpha_values.specs.Op.{complement, extracted_low, extracted_high, inserted, byte_mask, zapped};
 ghost use Rattle.alpha_values.specs.Op.{bytes_compared};
 
 /// EXTxL: the bytes of Ra from Rb's place on, as many as the size has (Architecture Handbook,
@@ -28,7 +28,7 @@ pub(crate) fn insert_low(size: u32, a: u64, b: u64) -> u64
     requires most { size ≤ 8 }
     ensures { result ≡ inserted size a b % 2 ^ 64 }
 {
-    (placed(size, a, b) & u128::from(u64::MAX)) as u64
+    (place_bytes(size, a, b) & u128::from(u64::MAX)) as u64
 }
 
 /// INSxH: the high quadword of the low bytes of Ra that are shifted to Rb's place.
@@ -37,16 +37,16 @@ pub(crate) fn insert_high(size: u32, a: u64, b: u64) -> u64
     requires most { size ≤ 8 }
     ensures { result ≡ inserted size a b / 2 ^ 64 }
 {
-    (placed(size, a, b) >> 64) as u64
+    (place_bytes(size, a, b) >> 64) as u64
 }
 
 /// MSKxL: as many bytes as the size has, from Rb's place on, are cleared.
 pub(crate) fn mask_low(size: u32, a: u64, b: u64) -> u64
     requires some { 0 < size }
     requires most { size ≤ 8 }
-    ensures { result ≡ zapped a (marked size b) }
+    ensures { result ≡ zapped a (byte_mask size b) }
 {
-    clear(a, marked(size, b))
+    clear(a, byte_mask(size, b))
 }
 
 /// MSKxH: of as many bytes as the size has, from Rb's place on, those past the eighth are cleared
@@ -54,9 +54,9 @@ pub(crate) fn mask_low(size: u32, a: u64, b: u64) -> u64
 pub(crate) fn mask_high(size: u32, a: u64, b: u64) -> u64
     requires some { 0 < size }
     requires most { size ≤ 8 }
-    ensures { result ≡ zapped a (marked size b / 2 ^ 8) }
+    ensures { result ≡ zapped a (byte_mask size b / 2 ^ 8) }
 {
-    clear(a, marked(size, b) >> 8)
+    clear(a, byte_mask(size, b) >> 8)
 }
 
 /// ZAP: the bytes that Rb marks are cleared.
@@ -139,7 +139,7 @@ fn low_bytes(a: u64, size: u32) -> u64
 }
 
 // The low bytes of Ra at Rb's place.
-fn placed(size: u32, a: u64, b: u64) -> u128
+fn place_bytes(size: u32, a: u64, b: u64) -> u128
     requires some { 0 < size }
     requires most { size ≤ 8 }
     ensures { result ≡ inserted size a b }
@@ -148,10 +148,10 @@ fn placed(size: u32, a: u64, b: u64) -> u128
 }
 
 // A bit for each of the sixteen bytes, 1 at as many as the size has from Rb's place on.
-fn marked(size: u32, b: u64) -> u64
+fn byte_mask(size: u32, b: u64) -> u64
     requires some { 0 < size }
     requires most { size ≤ 8 }
-    ensures { result ≡ marked size b }
+    ensures { result ≡ byte_mask size b }
 {
     ((1 << size) - 1) << place(b)
 }

@@ -26,11 +26,11 @@ pub fn access_address(access: &MemAccess, base: u64) -> u64
 {
     let MemAccess { disp, clears, .. } = *access;
     let at = address(base, disp);
-    if clears { cleared(at) } else { at }
+    if clears { clear_low_bits(at) } else { at }
 }
 
 // The number with its three low bits cleared.
-fn cleared(at: u64) -> u64
+fn clear_low_bits(at: u64) -> u64
     ensures { result ≡ at / 8 * 8 }
 {
     at >> 3 << 3

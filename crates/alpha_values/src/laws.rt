@@ -11,7 +11,8 @@ ghost use Rattle.alpha_values.specs.Address.{address_of, high_address_of, access
 ghost use Rattle.alpha_values.specs.InSpan.{IsInSpan};
 ghost use Rattle.alpha_words.specs.Digits.{digits};
 ghost use Rattle.alpha_values.specs.Bits.{bits_of};
-ghost use Rattle.alpha_values.specs.Op.{complement, extracted_low, extracted_high, inserted, marked, zapped, result_of};
+ghost use Rattle.alpha_values.specs.Op.{complement, extracted_low, extracted_high, inserted, byte_mask, zapped};
+ghost use Rattle.alpha_values.specs.Op.{result_of};
 ghost use Rattle.alpha_values.specs.Lists.{inverted, and_of, or_of, xor_of, bytes_from, bytes_above, low_placed};
 ghost use Rattle.alpha_values.specs.Lists.{high_placed, cleared, low_cleared, high_cleared, on_lists};
 
@@ -61,9 +62,9 @@ pub fn laws_of_lists()
     ensures inserts_high { (size a b : ℕ) → size ≤ 8
         → inserted size a b / 2 ^ 64 ≡ high_placed size a b }
     ensures masks_low { (size a b : ℕ) → size ≤ 8
-        → zapped a (marked size b) ≡ low_cleared size a b }
+        → zapped a (byte_mask size b) ≡ low_cleared size a b }
     ensures masks_high { (size a b : ℕ) → size ≤ 8
-        → zapped a (marked size b / 2 ^ 8) ≡ high_cleared size a b }
+        → zapped a (byte_mask size b / 2 ^ 8) ≡ high_cleared size a b }
     ensures zaps { (a b : ℕ) → zapped a b ≡ cleared (digits 2 8 b) a }
     ensures zaps_not { (a b : ℕ) → b < 2 ^ 64
         → zapped a (complement b) ≡ cleared (inverted (digits 2 8 b)) a }

@@ -12,9 +12,9 @@ use crate::bytes::{
 };
 use crate::counts::{ones, zeros_above, zeros_below};
 use crate::number::quadword;
-use crate::shifts::{shifted_left, shifted_right, shifted_signed};
+use crate::shifts::{shift_left, shift_right, shift_right_signed};
 use crate::sums::{
-    extended_byte, extended_word, high_product, scaled_difference, scaled_long_difference,
+    sign_extend_byte, sign_extend_word, high_product, scaled_difference, scaled_long_difference,
     scaled_long_sum, scaled_sum,
 };
 use crate::{completed, laws_of_completion, overflows, taken};
@@ -37,7 +37,7 @@ pub fn operate_at(level: Level, op: Op, a: u64, b: u64, old: u64) -> u64
 {
     match outcome(level, op, a, b, old) {
         Some(value) => value,
-        None => completed_by(op, a, b),
+        None => wrapped_result_of(op, a, b),
     }
 }
 
@@ -48,18 +48,18 @@ pub fn outcome(level: Level, op: Op, a: u64, b: u64, old: u64) -> Option<u64>
     ensures { result ≡ outcome_of level op a b old }
 {
     match op {
-        Op::AddlV => fitting(TrapOp::AddlV, a, b),
-        Op::SublV => fitting(TrapOp::SublV, a, b),
-        Op::MullV => fitting(TrapOp::MullV, a, b),
-        Op::AddqV => fitting(TrapOp::AddqV, a, b),
-        Op::SubqV => fitting(TrapOp::SubqV, a, b),
-        Op::MulqV => fitting(TrapOp::MulqV, a, b),
-        Op::Addl => Some(wrapped(TrapOp::AddlV, a, b)),
-        Op::Subl => Some(wrapped(TrapOp::SublV, a, b)),
-        Op::Mull => Some(wrapped(TrapOp::MullV, a, b)),
-        Op::Addq => Some(wrapped(TrapOp::AddqV, a, b)),
-        Op::Subq => Some(wrapped(TrapOp::SubqV, a, b)),
-        Op::Mulq => Some(wrapped(TrapOp::MulqV, a, b)),
+        Op::AddlV => exact_result(TrapOp::AddlV, a, b),
+        Op::SublV => exact_result(TrapOp::SublV, a, b),
+        Op::MullV => exact_result(TrapOp::MullV, a, b),
+        Op::AddqV => exact_result(TrapOp::AddqV, a, b),
+        Op::SubqV => exact_result(TrapOp::SubqV, a, b),
+        Op::MulqV => exact_result(TrapOp::MulqV, a, b),
+        Op::Addl => Some(wrapped_result(TrapOp::AddlV, a, b)),
+        Op::Subl => Some(wrapped_result(TrapOp::SublV, a, b)),
+        Op::Mull => Some(wrapped_result(TrapOp::MullV, a, b)),
+        Op::Addq => Some(wrapped_result(TrapOp::AddqV, a, b)),
+        Op::Subq => Some(wrapped_result(TrapOp::SubqV, a, b)),
+        Op::Mulq => Some(wrapped_result(TrapOp::MulqV, a, b)),
         Op::S4addl => Some(scaled_long_sum(4, a, b)),
         Op::S8addl => Some(scaled_long_sum(8, a, b)),
         Op::S4subl => Some(scaled_long_difference(4, a, b)),
@@ -69,8 +69,8 @@ pub fn outcome(level: Level, op: Op, a: u64, b: u64, old: u64) -> Option<u64>
         Op::S4subq => Some(scaled_difference(4, a, b)),
         Op::S8subq => Some(scaled_difference(8, a, b)),
         Op::Umulh => Some(high_product(a, b)),
-        Op::Sextb => Some(extended_byte(b)),
-        Op::Sextw => Some(extended_word(b)),
+        Op::Sextb => Some(sign_extend_byte(b)),
+        Op::Sextw => Some(sign_extend_word(b)),
         Op::Cmpeq => Some(u64::from(a == b)),
         Op::Cmplt => Some(u64::from(quadword(a) < quadword(b))),
         Op::Cmple => Some(u64::from(quadword(a) <= quadword(b))),
@@ -88,17 +88,17 @@ pub fn outcome(level: Level, op: Op, a: u64, b: u64, old: u64) -> Option<u64>
         Op::Ctpop => Some(ones(b)),
         Op::Ctlz => Some(zeros_above(b)),
         Op::Cttz => Some(zeros_below(b)),
-        Op::Cmovlbs => Some(moved(Cond::Lbs, a, b, old)),
-        Op::Cmovlbc => Some(moved(Cond::Lbc, a, b, old)),
-        Op::Cmoveq => Some(moved(Cond::Eq, a, b, old)),
-        Op::Cmovne => Some(moved(Cond::Ne, a, b, old)),
-        Op::Cmovlt => Some(moved(Cond::Lt, a, b, old)),
-        Op::Cmovle => Some(moved(Cond::Le, a, b, old)),
-        Op::Cmovge => Some(moved(Cond::Ge, a, b, old)),
-        Op::Cmovgt => Some(moved(Cond::Gt, a, b, old)),
-        Op::Sll => Some(shifted_left(a, b)),
-        Op::Srl => Some(shifted_right(a, b)),
-        Op::Sra => Some(shifted_signed(a, b)),
+        Op::Cmovlbs => Some(cmov_result(Cond::Lbs, a, b, old)),
+        Op::Cmovlbc => Some(cmov_result(Cond::Lbc, a, b, old)),
+        Op::Cmoveq => Some(cmov_result(Cond::Eq, a, b, old)),
+        Op::Cmovne => Some(cmov_result(Cond::Ne, a, b, old)),
+        Op::Cmovlt => Some(cmov_result(Cond::Lt, a, b, old)),
+        Op::Cmovle => Some(cmov_result(Cond::Le, a, b, old)),
+        Op::Cmovge => Some(cmov_result(Cond::Ge, a, b, old)),
+        Op::Cmovgt => Some(cmov_result(Cond::Gt, a, b, old)),
+        Op::Sll => Some(shift_left(a, b)),
+        Op::Srl => Some(shift_right(a, b)),
+        Op::Sra => Some(shift_right_signed(a, b)),
         Op::Extbl => Some(extract_low(1, a, b)),
         Op::Extwl => Some(extract_low(2, a, b)),
         Op::Extll => Some(extract_low(4, a, b)),
@@ -164,35 +164,35 @@ pub fn compute(level: Level, op: Op, a: u64, b: u64, old: u64, completion: Compl
 
 // The exact result of a `/V` row, if it fits.
 #[inline(always)]
-fn fitting(op: TrapOp, a: u64, b: u64) -> Option<u64>
+fn exact_result(op: TrapOp, a: u64, b: u64) -> Option<u64>
     ensures { result ≡ (if overflow_of op a b then None else Some (completed_of op a b Completion.Wrap)) }
 {
     if overflows(op, a, b) {
         return None;
     }
-    Some(wrapped(op, a, b))
+    Some(wrapped_result(op, a, b))
 }
 
 // The wrapped result of a `/V` row.
 #[inline(never)]
-fn completed_by(op: Op, a: u64, b: u64) -> u64
+fn wrapped_result_of(op: Op, a: u64, b: u64) -> u64
     ensures { (trap : _) → trap_of op ≡ Some trap → result ≡ completed_of trap a b Completion.Wrap }
 {
     match op.trap() {
-        Some(trap) => wrapped(trap, a, b),
+        Some(trap) => wrapped_result(trap, a, b),
         None => 0,
     }
 }
 
 // The exact result of a `/V` row as its size wraps it, which its row without `/V` gives too.
-fn wrapped(op: TrapOp, a: u64, b: u64) -> u64
+fn wrapped_result(op: TrapOp, a: u64, b: u64) -> u64
     ensures { result ≡ completed_of op a b Completion.Wrap }
 {
     completed(op, a, b, Completion::Wrap)
 }
 
 // Rb where Ra meets the condition, else what the destination had.
-fn moved(c: Cond, a: u64, b: u64, old: u64) -> u64
+fn cmov_result(c: Cond, a: u64, b: u64, old: u64) -> u64
     ensures { result ≡ (if is_taken c a then b else old) }
 {
     if taken(c, a) { b } else { old }

@@ -44,14 +44,14 @@ pub(crate) fn high_product(a: u64, b: u64) -> u64
 }
 
 /// The low byte, as a signed number.
-pub(crate) fn extended_byte(b: u64) -> u64
+pub(crate) fn sign_extend_byte(b: u64) -> u64
     ensures { result ≡ register_of (signed w8 b) }
 {
     register(i64::from(((b & 0xff) as u8).cast_signed()))
 }
 
 /// The low word of 16 bits, as a signed number.
-pub(crate) fn extended_word(b: u64) -> u64
+pub(crate) fn sign_extend_word(b: u64) -> u64
     ensures { result ≡ register_of (signed w16 b) }
 {
     register(i64::from(((b & 0xffff) as u16).cast_signed()))

@@ -9,7 +9,7 @@ use alpha_words::Completion;
 /// Whether the exact result of Ra and Rb lies outside the signed range of the operation's size, 32
 /// bits for a longword and 64 for a quadword (Architecture Handbook, section 4.4). A longword
 /// operation uses the low 32 bits of both.
-#[tactic(auto, using(crate::proofs::Ranges::overflow_is), unfolding(crate::specs::TrapOp::overflow_of))]
+#[tactic(auto, using(crate::proofs::SignedRanges::overflow_is), unfolding(crate::specs::TrapOp::overflow_of))]
 #[inline(always)]
 pub fn overflows(op: TrapOp, a: u64, b: u64) -> bool
     ensures { result ≡ overflow_of op a b }
@@ -33,13 +33,13 @@ pub fn completed(op: TrapOp, a: u64, b: u64, completion: Completion) -> u64
     ensures { result ≡ completed_of op a b completion }
 {
     register(match completion {
-        Completion::Wrap | Completion::Stop => wrapping(op, a, b),
-        Completion::Saturate => saturating(op, a, b),
+        Completion::Wrap | Completion::Stop => wrap(op, a, b),
+        Completion::Saturate => saturate(op, a, b),
     })
 }
 
 // The number of the size's signed range that is congruent to the exact result.
-fn wrapping(op: TrapOp, a: u64, b: u64) -> i64
+fn wrap(op: TrapOp, a: u64, b: u64) -> i64
     ensures { result ≡ int_wrap (size_of op) (exact op a b) }
 {
     match op {
@@ -53,7 +53,7 @@ fn wrapping(op: TrapOp, a: u64, b: u64) -> i64
 }
 
 // The number of the size's signed range that is nearest to the exact result.
-fn saturating(op: TrapOp, a: u64, b: u64) -> i64
+fn saturate(op: TrapOp, a: u64, b: u64) -> i64
     ensures { result ≡ saturate_signed (size_of op) (exact op a b) }
 {
     match op {

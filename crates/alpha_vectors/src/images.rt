@@ -1,6 +1,6 @@
 ghost use Rattle.std.specs.Prelude.{◌≡◌, ◌%◌, length, IfOk};
 
-use crate::parts::repeated;
+use crate::parts::split_repetition;
 use alpha_image::{
     Fields, Image, ImageFault, LevelFields, Segment, code_word, image_bytes, read_image, take_image,
 };
@@ -47,7 +47,7 @@ fn answer(alloc: Global, kind: &str, asked: &str) -> anyhow::Result<String> {
         "read" => read(alloc, asked),
         "fronts" => fronts(alloc, asked),
         "fields" => bad_field(alloc, asked),
-        "build" => built(alloc, asked),
+        "build" => build_text(alloc, asked),
         "pair" => pair(alloc, asked),
         "bare" => bare(alloc, asked),
         _ => bail!("no kind of line: {kind}"),
@@ -57,7 +57,7 @@ fn answer(alloc: Global, kind: &str, asked: &str) -> anyhow::Result<String> {
 fn bytes_of(alloc: Global, text: &str) -> anyhow::Result<Vec<u8>> {
     let mut bytes = Vec::new(alloc);
     for part in text.split(' ') {
-        let (digits, count) = repeated(part)?;
+        let (digits, count) = split_repetition(part)?;
         let Ok(part) = hex::decode(alloc, digits) else {
             bail!("no bytes: {digits}");
         };
@@ -260,7 +260,7 @@ fn segments_of(alloc: Global, text: &str) -> anyhow::Result<Vec<Segment>> {
 }
 
 // The bytes of an image that was built, or the fault.
-fn spelled(alloc: Global, built: Result<Image, ImageFault>) -> anyhow::Result<String> {
+fn spell(alloc: Global, built: Result<Image, ImageFault>) -> anyhow::Result<String> {
     match built {
         Err(fault) => Ok(format!(in alloc; "{fault}")?),
         Ok(image) => {
@@ -283,7 +283,7 @@ fn code_of(alloc: Global, text: &str) -> anyhow::Result<Vec<u8>>
     Ok(code)
 }
 
-fn built(alloc: Global, text: &str) -> anyhow::Result<String> {
+fn build_text(alloc: Global, text: &str) -> anyhow::Result<String> {
     let mut parts = text.split('|');
     let (Some(numbers), Some(code), Some(data)) = (parts.next(), parts.next(), parts.next()) else {
         bail!("numbers, code and data are wanted: {text}");
@@ -301,7 +301,7 @@ fn built(alloc: Global, text: &str) -> anyhow::Result<String> {
     };
     let code = code_of(alloc, code)?;
     let data = bytes_of(alloc, data)?;
-    spelled(alloc, Image::build(alloc, &fields, &code, &data))
+    spell(alloc, Image::build(alloc, &fields, &code, &data))
 }
 
 const CODE: u64 = 0x1_0000;
@@ -331,7 +331,7 @@ fn pair(alloc: Global, code: &str) -> anyhow::Result<String> {
         },
     ];
     let code = code_of(alloc, code)?;
-    spelled(
+    spell(
         alloc,
         Image::build_level(alloc, &fields, &segments, &code, &PAIR),
     )
@@ -348,5 +348,5 @@ fn bare(alloc: Global, text: &str) -> anyhow::Result<String> {
         level: level.parse::<u64>()?,
     };
     let code = code_of(alloc, code)?;
-    spelled(alloc, Image::build_level(alloc, &fields, &[], &code, &[]))
+    spell(alloc, Image::build_level(alloc, &fields, &[], &code, &[]))
 }

@@ -1,4 +1,4 @@
-use crate::parts::repeated;
+use crate::parts::split_repetition;
 use crate::plain::least_broken;
 use alpha_samples::sample;
 use alpha_shadow::Broken;
@@ -18,7 +18,7 @@ pub fn run(rt: &impl Print, alloc: Global, text: &str) -> anyhow::Result<()> {
             continue;
         };
         let words = words_of(alloc, words)?;
-        let judged = text_of(alloc, judged(alloc, &words)?)?;
+        let judged = text_of(alloc, judge_words(alloc, &words)?)?;
         let tried = text_of(alloc, least_broken(&insns_of(alloc, &words)?))?;
         if judged.as_str() == wanted && tried.as_str() == wanted {
             same = same.saturating_add(1);
@@ -34,7 +34,7 @@ pub fn run(rt: &impl Print, alloc: Global, text: &str) -> anyhow::Result<()> {
 fn words_of(alloc: Global, text: &str) -> anyhow::Result<Vec<u32>> {
     let mut words = Vec::new(alloc);
     for text in text.split(' ') {
-        let (word, count) = repeated(text)?;
+        let (word, count) = split_repetition(text)?;
         let word = u32::from_str_radix(word, 16)?;
         for _ in 0..count {
             words.push(word)?;
@@ -55,7 +55,7 @@ fn insns_of(alloc: Global, words: &[u32]) -> anyhow::Result<Vec<Insn>> {
 }
 
 // The checker's verdict on an image with this code.
-fn judged(alloc: Global, words: &[u32]) -> anyhow::Result<Option<Broken>> {
+fn judge_words(alloc: Global, words: &[u32]) -> anyhow::Result<Option<Broken>> {
     let image = sample(alloc, words, 0)?;
     Ok(judge_image(&image).err())
 }

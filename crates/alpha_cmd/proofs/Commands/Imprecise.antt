@@ -15,8 +15,8 @@ use Rattle.alpha_imprecise.specs.Pcg.{pcg_word, seeded}
 use Rattle.alpha_imprecise.specs.Used.{HasUsed}
 use Rattle.alpha_imprecise.specs.ChosenRun.{begun, chosen_run, ShownImprecise, LostTrap, first_words, most_words}
 use Rattle.alpha_imprecise.proofs.WordDraws.{words_drawn}
-use Rattle.alpha_imprecise.proofs.Drawn.{chosen_run_with-chosen_run, begun-chosen_run, chosen_run-draws}
-use Rattle.alpha_imprecise.proofs.Exactly.{drawn_exactly}
+use Rattle.alpha_imprecise.proofs.DrawnRuns.{chosen_run_with-chosen_run, begun-chosen_run, chosen_run-draws}
+use Rattle.alpha_imprecise.proofs.ExactDraws.{drawn_exactly}
 use Rattle.alpha_imprecise.proofs.PendingTraps.{made_is}
 use Rattle.alpha_cmd.specs.declared.status.Status.TheVariants as statuses
 use Rattle.alpha_cmd.specs.declared.status.Status.{Status}
@@ -35,8 +35,8 @@ use Rattle.alpha_cmd.specs.Commands.Imprecise.{imprecise_status, answer_imprecis
 use Rattle.alpha_cmd.specs.Commands.Imprecise.{HasChoices}
 use Rattle.alpha_cmd.specs.Commands.Imprecise.{steps, form, there}
 use Rattle.alpha_cmd.proofs.Lawful.{IsRefusal, Lawful, Then-lawful, Goes-lawful, Gives-lawful}
-use Rattle.alpha_cmd.proofs.Stages.{Reads-lawful, ImageOf-lawful, Judges-lawful}
-use Rattle.alpha_cmd.proofs.Forms.{IsLawfulForm, is_fault}
+use Rattle.alpha_cmd.proofs.StageLaws.{Reads-lawful, ImageOf-lawful, Judges-lawful}
+use Rattle.alpha_cmd.proofs.FormLaws.{IsLawfulForm, is_fault}
 use Rattle.alpha_cmd.proofs.Commands.Run.{some_shown as some_run}
 
 -- ---- the stages

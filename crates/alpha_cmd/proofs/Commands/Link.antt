@@ -11,7 +11,7 @@ use Rattle.alpha_image.specs.Parts.{Parts, IsImage, IsByte}
 use Rattle.alpha_image.specs.Parts as images
 use Rattle.alpha_asm.specs.Program.{Program, program_of}
 use Rattle.alpha_round.proofs.ListingRoundTrip.{assembled-listing}
-use Rattle.alpha_round.proofs.Same.{one-image}
+use Rattle.alpha_round.proofs.SameImage.{one-image}
 use Rattle.alpha_dis.specs.Listing.{listing}
 use Rattle.alpha_link.specs.declared.fault.ModuleFault.{ModuleFault}
 use Rattle.alpha_link.specs.declared.fault.LinkFault.{LinkFault}
@@ -20,7 +20,7 @@ use Rattle.alpha_link.specs.Spelled.{module_at, spelling}
 use Rattle.alpha_link.specs.Linked.{linked}
 use Rattle.alpha_link.proofs.LinkedImages.{linked_image}
 use Rattle.alpha_link.proofs.ModuleBytes.{bytes_of_all, module_takes, module_again}
-use Rattle.alpha_link.proofs.Results.{gave-injective}
+use Rattle.alpha_link.proofs.ReadingResults.{gave-injective}
 use Rattle.alpha_cmd.specs.declared.status.Status.{Status}
 use Rattle.alpha_cmd.specs.declared.status.Status.TheVariants.{BadModule, BadLink}
 use Rattle.alpha_cmd.specs.Status.{status_line}
@@ -31,10 +31,11 @@ use Rattle.alpha_cmd.specs.Form.{IsThere}
 use Rattle.alpha_cmd.specs.Commands.Link.{module_limit, FilesOf, ModuleOf, ModulesOf, IsLinked, Links, LinksFiles}
 use Rattle.alpha_cmd.specs.Commands.Link.{Spell, form, there}
 use Rattle.alpha_cmd.proofs.Lawful.{Lawful, HasOutcome, IsRefusal, Faults-lawful, Then-lawful}
-use Rattle.alpha_cmd.proofs.ReadEach.{Each-lawful, Each-zip, Zip, RestOfReads, drop_at, rest_next, rest_stops}
-use Rattle.alpha_cmd.proofs.Stages.{Reads-lawful, read_bytes, kept_same}
+use Rattle.alpha_cmd.proofs.ReadEach.{Each-lawful, Each-zip, AreRelatedEach, RestOfReads, drop_at, rest_next}
+use Rattle.alpha_cmd.proofs.ReadEach.{rest_stops}
+use Rattle.alpha_cmd.proofs.StageLaws.{Reads-lawful, read_bytes, kept_same}
 use Rattle.alpha_cmd.specs.Replied.{IsReadEach}
-use Rattle.alpha_cmd.proofs.Forms.{IsLawfulForm, making_lawful}
+use Rattle.alpha_cmd.proofs.FormLaws.{IsLawfulForm, making_lawful}
 
 -- ---- a module
 
@@ -98,19 +99,19 @@ abbrev pub IsSpelled : List ℕ → ModuleParts → Type 0
 IsSpelled bytes m = IsModule m × (bytes ≡ spelling m)
 
 pub files_read : (files : Files) (names all : List (List ℕ)) → FilesOf files names (continues all)
-    → Zip (NamesModule files) names all
+    → AreRelatedEach (NamesModule files) names all
 files_read files names all h =
     Each-zip (λ before name. Reads files name module_limit) (NamesModule files)
     (λ before name bytes read. read.0) names all h
 
 pub modules_spelled : (all : List (List ℕ)) (ms : List ModuleParts) → ModulesOf all (continues ms)
-    → Zip IsSpelled all ms
+    → AreRelatedEach IsSpelled all ms
 modules_spelled all ms h =
     Each-zip (λ before bytes. ModuleOf (length before) bytes) IsSpelled (λ before bytes m read. read) all ms h
 
 pub NamesModule-Spell : (files : Files) (names all : List (List ℕ)) (ms : List ModuleParts)
-    → Zip (NamesModule files) names all
-    → Zip IsSpelled all ms → Spell files names ms
+    → AreRelatedEach (NamesModule files) names all
+    → AreRelatedEach IsSpelled all ms → Spell files names ms
 NamesModule-Spell files [] [] [] h g = tt
 NamesModule-Spell files [] [] (m ∷ ms) h g = absurd g
 NamesModule-Spell files [] (b ∷ all) ms h g = absurd h
@@ -119,7 +120,7 @@ NamesModule-Spell files (n ∷ names) (b ∷ all) [] h g = absurd g
 NamesModule-Spell files (n ∷ names) (b ∷ all) (m ∷ ms) h g =
     ((g.0.0, subst (HasFile files n) g.0.1 h.0), NamesModule-Spell files names all ms h.1 g.1)
 
-pub all_modules : (all : List (List ℕ)) (ms : List ModuleParts) → Zip IsSpelled all ms → All IsModule ms
+pub all_modules : (all : List (List ℕ)) (ms : List ModuleParts) → AreRelatedEach IsSpelled all ms → All IsModule ms
 all_modules [] [] h = All-nil IsModule
 all_modules [] (m ∷ ms) h = absurd h
 all_modules (b ∷ all) [] h = absurd h
@@ -145,7 +146,7 @@ files_lawful told whole there files (n ∷ names) is_told is_whole has = (
 )
 
 modules_lawful : (told whole there : Type 0) (files : Files) (names all : List (List ℕ))
-    → (whole → IsSome files × HaveBytes files) → Zip (NamesModule files) names all
+    → (whole → IsSome files × HaveBytes files) → AreRelatedEach (NamesModule files) names all
     → AllByRecursion (λ bytes. (before : List ModuleParts) → Lawful told whole there (ModuleOf (length before) bytes))
     all
 modules_lawful told whole there files [] [] is_whole read = tt

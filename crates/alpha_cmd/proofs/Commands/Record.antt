@@ -14,7 +14,7 @@ use Rattle.alpha_imprecise.specs.Chosen.{Draws}
 use Rattle.alpha_imprecise.specs.ChosenRun.{ChosenRun, begun, first_words, most_words, ShownImprecise}
 use Rattle.alpha_imprecise.specs.Restart.{IsRestartable}
 use Rattle.alpha_imprecise.proofs.WordDraws.{words_drawn, draws_most}
-use Rattle.alpha_imprecise.proofs.Exactly.{drawn_exactly}
+use Rattle.alpha_imprecise.proofs.ExactDraws.{drawn_exactly}
 use Rattle.alpha_replay.specs.Journal.{Parts, spelling}
 use Rattle.alpha_replay.specs.Journaled.{journal_of, journal_at, is_within, stops_at, GoesOver}
 use Rattle.alpha_replay.specs.JournalEnd.{StopsAt, IsRecorded, IsPast}
@@ -34,8 +34,8 @@ use Rattle.alpha_cmd.specs.Commands.Record.{HasItsJournal, IsStopped, KeepsBehin
 use Rattle.alpha_cmd.specs.Commands.Record.{Records, IsEndStatus, form, there}
 use Rattle.alpha_cmd.proofs.HasShown.{reads_show}
 use Rattle.alpha_cmd.proofs.Lawful.{Lawful, Then-lawful, Goes-lawful}
-use Rattle.alpha_cmd.proofs.Stages.{taken_or_not, refused_there}
-use Rattle.alpha_cmd.proofs.Forms.{IsPlain, IsLawfulForm, is_fault}
+use Rattle.alpha_cmd.proofs.StageLaws.{taken_or_not, refused_there}
+use Rattle.alpha_cmd.proofs.FormLaws.{IsPlain, IsLawfulForm, is_fault}
 use Rattle.alpha_cmd.proofs.Commands.Imprecise.{Planned-lawful, planned_good, some_shown, same_shown}
 use Rattle.alpha_cmd.proofs.Commands.Imprecise.{MayShowImprecise-MayLose}
 use Rattle.alpha_cmd.proofs.Commands.Imprecise.{imprecise-plain}
@@ -153,11 +153,11 @@ pub record Journals (options : RunOptions) (force : Bool) (plan : Plan)
   pub shows : ShowsRecorded options plan shown r
   pub has : HasRecorded options plan (journal_of options.complete r.at.last_event r.steps) r
 
-pub journals : (options : RunOptions) (force : Bool) (plan : Plan) (r : RecordedByReads options plan)
+pub Journals-by_reads : (options : RunOptions) (force : Bool) (plan : Plan) (r : RecordedByReads options plan)
     → is_within (journal_of options.complete r.at.last_event r.steps) ≡ true
     → (force ≡ false → IsRestartable plan.image) → Journals options force plan r
 unfolding made_recorded
-journals options force plan r within alone =
+Journals-by_reads options force plan r within alone =
     let s = reads_show (unwatched options) force plan (made_recorded options plan r within) alone in
     record {
       shown = s.shown;
@@ -195,12 +195,12 @@ stopped_same options (Some input) plan x y l m told h g =
     let same = same_past options.steps (program_by options plan.image) input plan.ahead h.0 g.0 h.1 g.1 in
     one ∙ (ap (λ (k : ChosenRun). full_answer (Some input) k.run.steps k.run.left) same ∙ sym two)
 
-apart : (options : RunOptions) (input : Option (List ℕ))
+IsStopped-has_no_journal : (options : RunOptions) (input : Option (List ℕ))
     (plan : Plan) (p : Parts) (x : List ImpreciseEvent) (l : List ℕ)
     → IsSome input → HasJournal options input plan p
     → IsStopped options input plan x l → ⊥
-apart options None plan p x l told h g = cc
-apart options (Some input) plan p x l told h g =
+IsStopped-has_no_journal options None plan p x l told h g = cc
+IsStopped-has_no_journal options (Some input) plan p x l told h g =
     IsRecorded-not_IsPast options.steps (program_by options plan.image) input plan.ahead p g.0 h g.1
 
 module _ (options : RunOptions) (force : Bool) (out : List ℕ) (w : World) (plan : Plan) where
@@ -221,10 +221,10 @@ module _ (options : RunOptions) (force : Bool) (out : List ℕ) (w : World) (pla
       → IsKeptRun options force out w plan b ⊎ IsFullRun options w plan b → a ≡ b
   one told a b (inl h) (inl g) = kept_one told a b h g
   one told a b (inl h) (inr g) =
-      absurd (apart options w.input plan h.journal g.steps g.left told
+      absurd (IsStopped-has_no_journal options w.input plan h.journal g.steps g.left told
       (has_of options w.input plan h.shown h.journal h.has) g.stopped)
   one told a b (inr h) (inl g) =
-      absurd (apart options w.input plan g.journal h.steps h.left told
+      absurd (IsStopped-has_no_journal options w.input plan g.journal h.steps h.left told
       (has_of options w.input plan g.shown g.journal g.has) h.stopped)
   one told a b (inr h) (inr g) =
       h.is ∙ (stopped_same options w.input plan h.steps g.steps h.left g.left told h.stopped g.stopped ∙ sym g.is)
@@ -267,7 +267,7 @@ module _ (options : RunOptions) (force : Bool) (out : List ℕ) (w : World) (pla
       by : (b : Bool) → is_within (journal_of options.complete r.at.last_event r.steps) ≡ b
           → HasAnswer (output_of (seen r.steps)) (notes_of false (seen r.steps))
       by true within =
-          let j = journals options force plan r within alone in
+          let j = Journals-by_reads options force plan r within alone in
           let p = journal_of options.complete r.at.last_event r.steps in
           let may =
           subst (λ (o : Option (List ℕ)). MayShowImprecise (unwatched options) force o plan j.shown)

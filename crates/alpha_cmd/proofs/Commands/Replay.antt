@@ -3,7 +3,7 @@ use Rattle.std.proofs.Common.{◌≡◌, ◌∙◌, ◌⊎◌, ℕ, List, All, O
 use Rattle.std.proofs.Common.{subst, inl, inr}
 use Rattle.alpha_io.specs.Files.{Files, KeepsFiles}
 use Rattle.alpha_image.specs.Parts.{Parts as Image, IsByte}
-use Rattle.alpha_image.proofs.Form.{IsBytes-All}
+use Rattle.alpha_image.proofs.ReadSpelling.{IsBytes-All}
 use Rattle.alpha_replay.specs.declared.fault.JournalFault.{JournalFault}
 use Rattle.alpha_replay.specs.declared.replay_fault.ReplayFault.{ReplayFault}
 use Rattle.alpha_replay.specs.declared.replaying.Replayed.{Replayed}
@@ -24,8 +24,8 @@ use Rattle.alpha_cmd.specs.Commands.Replay.{journal_limit, SpellsJournal, Journa
 use Rattle.alpha_cmd.specs.Stage.{StopsBy, stop_status, stop_line}
 use Rattle.alpha_cmd.specs.declared.status.Status.{Status}
 use Rattle.alpha_cmd.proofs.Lawful.{Lawful, IsRefusal, HasOutcome, Faults-lawful, Then-lawful, Gives-lawful}
-use Rattle.alpha_cmd.proofs.Stages.{Reads-lawful, ImageOf-lawful, read_bytes, kept_same}
-use Rattle.alpha_cmd.proofs.Forms.{IsLawfulForm, is_fault}
+use Rattle.alpha_cmd.proofs.StageLaws.{Reads-lawful, ImageOf-lawful, read_bytes, kept_same}
+use Rattle.alpha_cmd.proofs.FormLaws.{IsLawfulForm, is_fault}
 
 -- ---- a journal
 

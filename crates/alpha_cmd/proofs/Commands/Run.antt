@@ -6,7 +6,7 @@ use Rattle.alpha_seq.specs.declared.end.End.{End}
 use Rattle.alpha_seq.specs.declared.end.End.TheVariants as ends
 use Rattle.alpha_seq.specs.Start.{start}
 use Rattle.alpha_seq.specs.Run.{begins, Shown, sequential}
-use Rattle.alpha_seq.proofs.Sequence.{Runs-Filled}
+use Rattle.alpha_seq.proofs.RunSequence.{Runs-Filled}
 use Rattle.alpha_cmd.specs.Outcome.{continues}
 use Rattle.alpha_cmd.specs.Image.{ImageOf}
 use Rattle.alpha_cmd.specs.Answer.{Answer}
@@ -16,7 +16,7 @@ use Rattle.alpha_cmd.specs.Commands.Run.{shown_by, MayShow, Runs, steps, kind, f
 use Rattle.alpha_cmd.specs.Commands.Imprecise.{drawn_status}
 use Rattle.alpha_cmd.specs.RunAnswer.{RunByReads, run_status, program_by, answer_shown}
 use Rattle.alpha_cmd.proofs.Lawful.{Lawful, Goes-lawful}
-use Rattle.alpha_cmd.proofs.Forms.{IsLawfulForm, is_fault, of_file_lawful}
+use Rattle.alpha_cmd.proofs.FormLaws.{IsLawfulForm, is_fault, of_file_lawful}
 
 pub some_shown : (options : RunOptions) (input : Option (List ℕ)) (image : Parts)
     → (s : Shown) × MayShow options input image s

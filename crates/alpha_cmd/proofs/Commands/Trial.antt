@@ -5,7 +5,7 @@ use Rattle.alpha_cmd.specs.Answer.{Answer}
 use Rattle.alpha_cmd.specs.AnswerBy.{World, done_with}
 use Rattle.alpha_cmd.specs.Commands.Trial.{form}
 use Rattle.alpha_cmd.proofs.Lawful.{Gives-lawful}
-use Rattle.alpha_cmd.proofs.Forms.{IsLawfulForm, is_fault}
+use Rattle.alpha_cmd.proofs.FormLaws.{IsLawfulForm, is_fault}
 
 pub trial_form-lawful : (blocks : ℕ) (w : World) → IsLawfulForm (form blocks) (λ w. Unit {0}) w
 trial_form-lawful blocks w = record {

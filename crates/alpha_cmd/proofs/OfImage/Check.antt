@@ -6,9 +6,9 @@ use Rattle.alpha_cmd.specs.Answer.{Answer}
 use Rattle.alpha_cmd.specs.AnswerBy.{World}
 use Rattle.alpha_cmd.specs.Form.{IsThere, reads}
 use Rattle.alpha_cmd.specs.OfImage.Check.{accepted, Checks}
-use Rattle.alpha_cmd.proofs.Forms.{IsLawfulForm, is_fault, form_of_file, of_file_lawful}
+use Rattle.alpha_cmd.proofs.FormLaws.{IsLawfulForm, is_fault, form_of_file, of_file_lawful}
 use Rattle.alpha_cmd.proofs.Lawful.{Then-lawful, Gives-lawful}
-use Rattle.alpha_cmd.proofs.Stages.{Judges-lawful}
+use Rattle.alpha_cmd.proofs.StageLaws.{Judges-lawful}
 
 pub check_form-lawful : (file : List ℕ) (w : World) → IsLawfulForm (form_of_file Checks reads file) (IsThere file) w
 check_form-lawful file w =

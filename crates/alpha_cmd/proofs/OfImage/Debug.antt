@@ -14,8 +14,8 @@ use Rattle.alpha_cmd.specs.AnswerBy.{World}
 use Rattle.alpha_cmd.specs.Form.{IsThere, streams}
 use Rattle.alpha_cmd.specs.OfImage.Debug.{MayTell, session_status, answer_told, Debugs, IsEndStatus}
 use Rattle.alpha_cmd.proofs.Lawful.{Lawful, Goes-lawful}
-use Rattle.alpha_cmd.proofs.Stages.{same_least}
-use Rattle.alpha_cmd.proofs.Forms.{IsLawfulForm, is_fault, form_of_file, of_file_lawful}
+use Rattle.alpha_cmd.proofs.StageLaws.{same_least}
+use Rattle.alpha_cmd.proofs.FormLaws.{IsLawfulForm, is_fault, form_of_file, of_file_lawful}
 
 -- ---- a session has one transcript, and some
 
@@ -46,28 +46,28 @@ Debugs-lawful told whole there input image has =
 
 -- ---- it ends as done or as too large
 
-abbrev pub IsEnd : DebugEnd → Type 0
-IsEnd end = (end ≡ ends.Done) ⊎ (end ≡ ends.TooLarge)
+abbrev pub IsSessionEnd : DebugEnd → Type 0
+IsSessionEnd end = (end ≡ ends.Done) ⊎ (end ≡ ends.TooLarge)
 
-end_by : (large : Bool) → IsEnd (if large then ends.TooLarge else ends.Done)
+end_by : (large : Bool) → IsSessionEnd (if large then ends.TooLarge else ends.Done)
 end_by true = inr refl
 end_by false = inl refl
 
-transcript_end : (g : Setting) (script : List ℕ) → IsEnd (transcript g script).end
+transcript_end : (g : Setting) (script : List ℕ) → IsSessionEnd (transcript g script).end
 unfolding transcript
 transcript_end g script = end_by _
 
-told_end : (input : Option (List ℕ)) (image : Parts) (t : Transcript) → MayTell input image t → IsEnd t.end
+told_end : (input : Option (List ℕ)) (image : Parts) (t : Transcript) → MayTell input image t → IsSessionEnd t.end
 told_end None image t (script, is) =
-    subst (λ (u : Transcript). IsEnd u.end) (sym is.is) (transcript_end is.setting script)
+    subst (λ (u : Transcript). IsSessionEnd u.end) (sym is.is) (transcript_end is.setting script)
 told_end (Some script) image t is =
-    subst (λ (u : Transcript). IsEnd u.end) (sym is.is) (transcript_end is.setting script)
+    subst (λ (u : Transcript). IsSessionEnd u.end) (sym is.is) (transcript_end is.setting script)
 
-end_plain : (end : DebugEnd) → IsEnd end → is_fault (session_status end) ≡ false
+end_plain : (end : DebugEnd) → IsSessionEnd end → is_fault (session_status end) ≡ false
 end_plain end (inl is) = ap (λ e. is_fault (session_status e)) is
 end_plain end (inr is) = ap (λ e. is_fault (session_status e)) is
 
-end_ends : (end : DebugEnd) → IsEnd end → IsEndStatus (session_status end)
+end_ends : (end : DebugEnd) → IsSessionEnd end → IsEndStatus (session_status end)
 end_ends end (inl is) = inl (ap session_status is)
 end_ends end (inr is) = inr (ap session_status is)
 

@@ -4,8 +4,8 @@ use Rattle.alpha_image.specs.Parts.{image_spelling}
 use Rattle.alpha_asm.specs.declared.fault.AsmFault.{AsmFault}
 use Rattle.alpha_asm.specs.Program.{Program}
 use Rattle.alpha_asm.specs.Assembled.{assembled}
-use Rattle.alpha_round.proofs.Same.{one-image}
-use Rattle.alpha_round.proofs.Sources.{some-image}
+use Rattle.alpha_round.proofs.SameImage.{one-image}
+use Rattle.alpha_round.proofs.UnrefusedSources.{some-image}
 use Rattle.alpha_cmd.specs.declared.status.Status.TheVariants.{BadSource}
 use Rattle.alpha_cmd.specs.Status.{status_line}
 use Rattle.alpha_cmd.specs.Outcome.{continues, stops}

@@ -6,8 +6,8 @@ use Rattle.alpha_shadow.specs.declared.broken.Broken.{Broken}
 use Rattle.alpha_asm.specs.declared.fault.AsmFault.{AsmFault}
 use Rattle.alpha_asm.specs.Program.{Program}
 use Rattle.alpha_asm.specs.Assembled.{assembled}
-use Rattle.alpha_round.proofs.Same.{one-image}
-use Rattle.alpha_round.proofs.Sources.{some-image}
+use Rattle.alpha_round.proofs.SameImage.{one-image}
+use Rattle.alpha_round.proofs.UnrefusedSources.{some-image}
 use Rattle.alpha_fix.specs.declared.fault.FixFault.TheVariants as faults
 use Rattle.alpha_fix.specs.Cuts.{AreCuts, NoneAlone}
 use Rattle.alpha_fix.specs.FixedSource.{fixed_source}

@@ -10,7 +10,7 @@ use Rattle.alpha_cmd.specs.Status.{status_line}
 use Rattle.alpha_cmd.specs.Outcome.{continues, stops}
 use Rattle.alpha_cmd.specs.SourceCommands.Module.{ModuleOf, Spells, Modules}
 use Rattle.alpha_cmd.proofs.Lawful.{Lawful, HasOutcome, Faults-lawful, Then-lawful}
-use Rattle.alpha_cmd.proofs.Stages.{Verdict-lawful}
+use Rattle.alpha_cmd.proofs.StageLaws.{Verdict-lawful}
 
 module_some : (source : List ℕ) (r : Result ModuleParts AsmFault) → made_module source ≡ r
     → HasOutcome (ModuleOf source)

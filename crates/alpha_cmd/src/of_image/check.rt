@@ -18,7 +18,7 @@ pub(crate) fn check_image(image: &Image) -> Decision
         → AnswerBy (images.on asked.Check image.now).steps w (answer_in w.input result) }
 {
     match image::require_accepted(image) {
-        Ok(()) => Decision::accepted(),
-        Err(stop) => Decision::stopped(stop),
+        Ok(()) => Decision::of_accepted_image(),
+        Err(stop) => Decision::of_stop(stop),
     }
 }

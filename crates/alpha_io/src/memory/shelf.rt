@@ -108,16 +108,16 @@ impl Shelf for MemoryShelf {
         let number = self.calls;
         self.calls = next_count(number);
         let Some(file) = find_file(&self.files, name) else {
-            self.history.piece(name, at, Err(Failed), buf);
+            self.history.note_piece(name, at, Err(Failed), buf);
             return Err(Failed);
         };
         if is_listed(&self.failing, number) {
             self.faults = next_count(self.faults);
-            self.history.piece(name, at, Err(Failed), buf);
+            self.history.note_piece(name, at, Err(Failed), buf);
             return Err(Failed);
         }
         let count = copy_piece(file, at, buf);
-        self.history.piece(name, at, Ok(count), buf);
+        self.history.note_piece(name, at, Ok(count), buf);
         Ok(count)
     }
 
@@ -137,10 +137,10 @@ impl Shelf for MemoryShelf {
             || store(self.alloc, &mut self.files, name, bytes).is_err()
         {
             self.faults = next_count(self.faults);
-            self.history.kept(name, bytes, Err(Failed));
+            self.history.note_keep(name, bytes, Err(Failed));
             return Err(Failed);
         }
-        self.history.kept(name, bytes, Ok(()));
+        self.history.note_keep(name, bytes, Ok(()));
         Ok(())
     }
 }

@@ -74,7 +74,7 @@ impl Source for SureSource {
     {
         let count = copy_front(&self.bytes[self.at..], buf);
         self.at += count;
-        self.history.took(Ok(count), buf);
+        self.history.note_take(Ok(count), buf);
         Ok(count)
     }
 }
@@ -157,13 +157,13 @@ impl Source for MemorySource {
         self.calls = next_count(number);
         if is_listed(&self.failing, number) {
             self.faults = next_count(self.faults);
-            self.history.took(Err(Failed), buf);
+            self.history.note_take(Err(Failed), buf);
             return Err(Failed);
         }
         let most = buf.len().min(self.most);
         let given = copy_front(&self.bytes[self.at..], &mut buf[..most]);
         self.at += given;
-        self.history.took(Ok(given), buf);
+        self.history.note_take(Ok(given), buf);
         Ok(given)
     }
 }
@@ -206,7 +206,7 @@ impl Source for EmptySource {
     ghost faults = { λ _. 0 };
 
     fn take(&mut self, buf: &mut [u8]) -> Result<usize, Failed> {
-        self.history.took(Ok(0), buf);
+        self.history.note_take(Ok(0), buf);
         Ok(0)
     }
 }

@@ -115,11 +115,11 @@ impl Shelf for SureShelf {
         match self.find_file(name) {
             Some(file) => {
                 let count = copy_piece(file, at, buf);
-                self.history.piece(name, at, Ok(count), buf);
+                self.history.note_piece(name, at, Ok(count), buf);
                 Ok(count)
             }
             None => {
-                self.history.piece(name, at, Err(Failed), buf);
+                self.history.note_piece(name, at, Err(Failed), buf);
                 Err(Failed)
             }
         }
@@ -136,13 +136,13 @@ impl Shelf for SureShelf {
             sure_file self.new other ≡ sure_file self.old other }
     {
         if name != self.out.as_str() || bytes.len() > self.room {
-            self.history.kept(name, bytes, Err(Failed));
+            self.history.note_keep(name, bytes, Err(Failed));
             return Err(Failed);
         }
         self.kept.clear();
         self.kept.extend_from_slice(bytes).unwrap();
         self.is_kept = true;
-        self.history.kept(name, bytes, Ok(()));
+        self.history.note_keep(name, bytes, Ok(()));
         Ok(())
     }
 }

@@ -1,6 +1,6 @@
 use Rattle.std.proofs.Common.{[]}
 use Rattle.std.specs.Str.Lines.{lines}
-use Rattle.alpha_asm.proofs.Cells.{values_cells, text_cells}
+use Rattle.alpha_asm.proofs.StatementCells.{values_cells, text_cells}
 use Rattle.alpha_asm.proofs.RefusedReading.{line_fault, lines_taken}
 use Rattle.alpha_asm.proofs.laws.laws_of_sources.Goals as goal
 

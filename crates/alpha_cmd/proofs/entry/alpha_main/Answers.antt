@@ -22,7 +22,7 @@ use Rattle.alpha_cmd.specs.Replied.{Replies}
 use Rattle.alpha_cmd.specs.Restarts.{Restarts}
 use Rattle.alpha_cmd.specs.ToldRun.{RanTold}
 use Rattle.alpha_cmd.proofs.JournalStatus.{journal_status-no_end}
-use Rattle.alpha_cmd.proofs.Ended.{memory_unended, run_end_class}
+use Rattle.alpha_cmd.proofs.EndStatuses.{memory_unended, run_end_class}
 use Rattle.alpha_cmd.proofs.SessionsTold.{tail_same}
 use Rattle.alpha_cmd.proofs.EndsWhere.{failed_ends}
 use Rattle.alpha_cmd.proofs.entry.alpha_main.Goals as goal

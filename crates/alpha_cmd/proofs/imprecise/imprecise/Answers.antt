@@ -4,9 +4,9 @@ use Rattle.alpha_request.specs.Options.{origin_of}
 use Rattle.alpha_cmd.specs.RunsAsked.{DecidesPlan}
 use Rattle.alpha_cmd.specs.Commands.Imprecise.{Planned, RunsImprecise, kind, plan_in}
 use Rattle.alpha_cmd.specs.Form.{needs_files_and_input}
-use Rattle.alpha_cmd.proofs.AfterRead.{does_after, does_stop}
+use Rattle.alpha_cmd.proofs.EffectsAfterRead.{does_after, does_stop}
 use Rattle.alpha_cmd.proofs.Commands.Imprecise.{planned_good, planned_plain}
-use Rattle.alpha_cmd.proofs.Ended.{stopped_unended}
+use Rattle.alpha_cmd.proofs.EndStatuses.{stopped_unended}
 use Rattle.alpha_cmd.proofs.RunsOnReplies.{plan_ran}
 use Rattle.alpha_cmd.proofs.EndsWhere.{memory_fails}
 use Rattle.alpha_cmd.proofs.imprecise.imprecise.Goals as goal
@@ -17,11 +17,12 @@ returns-in-Ok-clause-does g c =
     let drawn = origin_of a.choices in
     let plan = plan_in c.in-Ok.begun in
     let is = c.in-Ok.ensures.stage in
-    does_after g.H.Shelf g.S.Source g.K.Sink g.N.Sink c.args.devices.now c.prepare.new.shelf c.run_begun.new.devices
+    does_after g.H.Shelf g.S.Source g.K.Sink g.N.Sink c.args.devices.now c.prepare.new.shelf
+    c.run_from_start.new.devices
     (Planned drawn a.force a.file.now)
-    (λ w. RunsImprecise a.options a.force w.input) needs_files_and_input (kind a.force) plan c.run_begun.result _
+    (λ w. RunsImprecise a.options a.force w.input) needs_files_and_input (kind a.force) plan c.run_from_start.result _
     (λ e. cc) is.ok is.shelf
-    (c.run_begun.ensures.does a.force
+    (c.run_from_start.ensures.does a.force
     (planned_good a.force drawn a.file.now (g.H.Shelf.files c.args.devices.now.shelf) plan is.ok))
 
 pub returns-in-Err-clause-does : goal.returns-in-Err-clause-does
@@ -30,37 +31,37 @@ returns-in-Err-clause-does g c =
     does_stop g.H.Shelf g.S.Source g.K.Sink g.N.Sink c.args.devices.now c.prepare.new.shelf
     (Planned (origin_of a.choices) a.force a.file.now)
     (λ w. RunsImprecise a.options a.force w.input) needs_files_and_input
-    (kind a.force) c.stopped.result c.in-Err.stop c.stopped.ensures c.in-Err.ensures.stage
+    (kind a.force) c.of_stop.result c.in-Err.stop c.of_stop.ensures c.in-Err.ensures.stage
 
 pub returns-in-Ok-clause-ran : goal.returns-in-Ok-clause-ran
 returns-in-Ok-clause-ran g c = λ ends.
     let a = c.args.asked in
     let old = c.args.devices.now in
-    let new = c.run_begun.new.devices in
+    let new = c.run_from_start.new.devices in
     let plan = plan_in c.in-Ok.begun in
     let planned = c.in-Ok.ensures.stage.ok in
     let may = planned_good a.force (origin_of a.choices) a.file.now (g.H.Shelf.files old.shelf) plan planned in
     plan_ran g.H.Shelf old.shelf c.prepare.new.shelf new.shelf a.file.now
-    (origin_of a.choices) a.force plan c.run_begun.result
+    (origin_of a.choices) a.force plan c.run_from_start.result
     (λ p decision. DecidesPlan a.options a.force p decision (drawn_in g.S.Source old.input new.input)
     (sink_change g.K.Sink old.out new.out) (sink_change g.N.Sink old.notes new.notes))
-    c.in-Ok.ensures.read planned c.run_begun.ensures.shelf (c.run_begun.ensures.ran a.force may ends)
+    c.in-Ok.ensures.read planned c.run_from_start.ensures.shelf (c.run_from_start.ensures.ran a.force may ends)
 
 pub returns-in-Err-clause-ran : goal.returns-in-Err-clause-ran
 returns-in-Err-clause-ran g c = λ ends.
     let a = c.args.asked in
     let files = g.H.Shelf.files c.args.devices.now.shelf in
     absurd (stopped_unended (Planned (origin_of a.choices) a.force a.file.now files) _
-    (planned_plain (origin_of a.choices) a.force a.file.now files) c.in-Err.stop c.stopped.result
-    c.stopped.ensures c.in-Err.ensures.stage.refused ends)
+    (planned_plain (origin_of a.choices) a.force a.file.now files) c.in-Err.stop c.of_stop.result
+    c.of_stop.ensures c.in-Err.ensures.stage.refused ends)
 
 pub returns-in-Ok-clause-ends : goal.returns-in-Ok-clause-ends
 returns-in-Ok-clause-ends g c = λ n seeds image good accepted read.
     let a = c.args.asked in
-    c.run_begun.ensures.ends a.force (planned_good a.force (origin_of a.choices) a.file.now
+    c.run_from_start.ensures.ends a.force (planned_good a.force (origin_of a.choices) a.file.now
     (g.H.Shelf.files c.args.devices.now.shelf) (plan_in c.in-Ok.begun) c.in-Ok.ensures.stage.ok)
 
 pub returns-in-Err-clause-ends : goal.returns-in-Err-clause-ends
 returns-in-Err-clause-ends g c = λ n seeds image good accepted read.
-    memory_fails _ c.in-Err.stop c.stopped.result c.stopped.ensures
+    memory_fails _ c.in-Err.stop c.of_stop.result c.of_stop.ensures
     (c.in-Err.ensures.whole n image seeds good accepted read)

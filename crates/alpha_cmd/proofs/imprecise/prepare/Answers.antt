@@ -11,7 +11,7 @@ use Rattle.alpha_cmd.specs.declared.status.Status.TheVariants.{NoMemory}
 use Rattle.alpha_cmd.specs.declared.stop.Stop.TheVariants.{OfStatus}
 use Rattle.alpha_cmd.proofs.StageEffects.{stage_made}
 use Rattle.alpha_cmd.proofs.Lawful.{Then-stops}
-use Rattle.alpha_cmd.proofs.Stages.{IfOk-more}
+use Rattle.alpha_cmd.proofs.StageLaws.{IfOk-more}
 use Rattle.alpha_cmd.proofs.EndsWhere.{read_accepted, seeded_read}
 use Rattle.alpha_cmd.proofs.imprecise.prepare.Goals as goal
 

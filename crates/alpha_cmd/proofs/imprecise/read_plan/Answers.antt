@@ -5,7 +5,7 @@ use Rattle.alpha_cmd.specs.Choosing.{ChoicesOf}
 use Rattle.alpha_cmd.specs.Commands.Imprecise.{plan_by}
 use Rattle.alpha_cmd.specs.Image.{ImageOf}
 use Rattle.alpha_cmd.specs.Outcome.{Gives}
-use Rattle.alpha_cmd.proofs.AfterRead.{second_stops}
+use Rattle.alpha_cmd.proofs.EffectsAfterRead.{second_stops}
 use Rattle.alpha_cmd.proofs.imprecise.read_plan.Goals as goal
 
 pub returns-in_err-chooser-clause-stage : goal.returns-in_err-chooser-clause-stage

@@ -12,7 +12,7 @@ use Rattle.alpha_cmd.specs.Keeping.{AttemptsKeep}
 use Rattle.alpha_cmd.specs.Kept.{nothing, file, spoilt}
 use Rattle.alpha_cmd.specs.Outcome.{continues, stops}
 use Rattle.alpha_cmd.specs.Status.{status_line}
-use Rattle.alpha_cmd.proofs.Stages.{taken_or_not}
+use Rattle.alpha_cmd.proofs.StageLaws.{taken_or_not}
 use Rattle.alpha_cmd.proofs.keep.keep_as.Goals as goal
 
 pub returns-in-Ok-clause-tried : goal.returns-in-Ok-clause-tried

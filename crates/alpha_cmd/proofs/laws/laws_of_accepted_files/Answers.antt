@@ -1,6 +1,6 @@
 use Rattle.alpha_request.specs.Origin.{seed}
 use Rattle.alpha_cmd.proofs.AcceptedFiles.{spelling-ImageOf, accepted-IsChecked, seed-HasWords, listed-HasWords}
-use Rattle.alpha_cmd.proofs.Alike.{answers-equal}
+use Rattle.alpha_cmd.proofs.ImpreciseAnswers.{answers-equal}
 use Rattle.alpha_cmd.proofs.laws.laws_of_accepted_files.Goals as goal
 
 pub returns : goal.returns

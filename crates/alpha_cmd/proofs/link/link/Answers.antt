@@ -3,10 +3,10 @@ use Rattle.alpha_io.specs.History.{Kept}
 use Rattle.alpha_cmd.specs.Commands.Link.{LinksFiles}
 use Rattle.alpha_cmd.specs.Form.{keeps_last, needs_files}
 use Rattle.alpha_cmd.specs.Keeping.{KeepsAs}
-use Rattle.alpha_cmd.proofs.AfterRead.{does_stop}
+use Rattle.alpha_cmd.proofs.EffectsAfterRead.{does_stop}
 use Rattle.alpha_cmd.proofs.Commands.Link.{makes_plain}
 use Rattle.alpha_cmd.proofs.StageEffects.{does_make}
-use Rattle.alpha_cmd.proofs.Stages.{stopped_undone}
+use Rattle.alpha_cmd.proofs.StageLaws.{stopped_undone}
 use Rattle.alpha_cmd.proofs.link.link.Goals as goal
 
 pub returns-in-Ok-clause-does : goal.returns-in-Ok-clause-does
@@ -38,12 +38,12 @@ returns-in-Err-clause-does g c =
     let names = map (λ name. name.now) c.args.files.now in
     does_stop g.H.Shelf g.S.Source g.K.Sink g.N.Sink c.args.devices.now c.read_and_link.new.shelf
     (λ files. LinksFiles files c.args.entry.now names) (λ w. KeepsAs w c.args.out.now)
-    needs_files (keeps_last c.args.out.now) c.stopped.result c.in-Err.stop c.stopped.ensures c.in-Err.ensures.stage
+    needs_files (keeps_last c.args.out.now) c.of_stop.result c.in-Err.stop c.of_stop.ensures c.in-Err.ensures.stage
 
 pub returns-in-Err-clause-kept : goal.returns-in-Err-clause-kept
 returns-in-Err-clause-kept g c = λ done.
     let names = map (λ name. name.now) c.args.files.now in
     let files = g.H.Shelf.files c.args.devices.now.shelf in
     absurd (stopped_undone (LinksFiles files c.args.entry.now names) _
-    (makes_plain files c.args.entry.now names) c.in-Err.stop c.stopped.result c.stopped.ensures
+    (makes_plain files c.args.entry.now names) c.in-Err.stop c.of_stop.result c.of_stop.ensures
     c.in-Err.ensures.stage.refused done)

@@ -1,5 +1,5 @@
 use Rattle.std.proofs.Common.{map}
-use Rattle.alpha_cmd.proofs.Stages.{IfOk-more}
+use Rattle.alpha_cmd.proofs.StageLaws.{IfOk-more}
 use Rattle.alpha_cmd.proofs.link.read_and_link.Goals as goal
 
 pub returns-clause-read : goal.returns-clause-read

@@ -6,11 +6,11 @@ use Rattle.alpha_cmd.specs.Image.{ImageOf}
 use Rattle.alpha_cmd.specs.Form.{needs_by}
 use Rattle.alpha_cmd.specs.OfImage.{Answers, kind}
 use Rattle.alpha_cmd.specs.RunsAsked.{DecidesOf}
-use Rattle.alpha_cmd.proofs.AfterRead.{does_after, does_stop}
+use Rattle.alpha_cmd.proofs.EffectsAfterRead.{does_after, does_stop}
 use Rattle.alpha_cmd.proofs.EndsWhere.{failed_of, memory_said}
-use Rattle.alpha_cmd.proofs.Ended.{stopped_unended}
+use Rattle.alpha_cmd.proofs.EndStatuses.{stopped_unended}
 use Rattle.alpha_cmd.proofs.RunsOnReplies.{image_ran}
-use Rattle.alpha_cmd.proofs.Stages.{stopped_undone, image_plain}
+use Rattle.alpha_cmd.proofs.StageLaws.{stopped_undone, image_plain}
 use Rattle.alpha_cmd.proofs.SessionsTold.{tail_same}
 use Rattle.alpha_cmd.proofs.of_image.of_image.Goals as goal
 
@@ -26,7 +26,7 @@ pub returns-in-Err-clause-does : goal.returns-in-Err-clause-does
 returns-in-Err-clause-does g c =
     does_stop g.H.Shelf g.S.Source g.K.Sink g.N.Sink c.args.devices.now c.load.new.shelf
     (λ files. ImageOf files c.args.file.now) (λ w. Answers c.args.command w.input)
-    (needs_by (kind c.args.command)) (kind c.args.command) c.stopped.result c.in-Err.stop c.stopped.ensures
+    (needs_by (kind c.args.command)) (kind c.args.command) c.of_stop.result c.in-Err.stop c.of_stop.ensures
     c.in-Err.ensures.stage
 
 pub returns-in-Err-clause-script : goal.returns-in-Err-clause-script
@@ -48,7 +48,7 @@ pub returns-in-Err-clause-checked : goal.returns-in-Err-clause-checked
 returns-in-Err-clause-checked g c = λ is done.
     let files = g.H.Shelf.files c.args.devices.now.shelf in
     absurd (stopped_undone (ImageOf files c.args.file.now) _
-    (image_plain files c.args.file.now) c.in-Err.stop c.stopped.result c.stopped.ensures
+    (image_plain files c.args.file.now) c.in-Err.stop c.of_stop.result c.of_stop.ensures
     c.in-Err.ensures.stage.refused done)
 
 pub returns-in-Ok-clause-ran : goal.returns-in-Ok-clause-ran
@@ -64,7 +64,7 @@ pub returns-in-Err-clause-ran : goal.returns-in-Err-clause-ran
 returns-in-Err-clause-ran g c = λ ends.
     let files = g.H.Shelf.files c.args.devices.now.shelf in
     absurd (stopped_unended (ImageOf files c.args.file.now) _
-    (image_plain files c.args.file.now) c.in-Err.stop c.stopped.result c.stopped.ensures
+    (image_plain files c.args.file.now) c.in-Err.stop c.of_stop.result c.of_stop.ensures
     c.in-Err.ensures.stage.refused ends)
 
 pub returns-in-Ok-clause-ends : goal.returns-in-Ok-clause-ends
@@ -72,5 +72,5 @@ returns-in-Ok-clause-ends g c = λ image good read. c.on_image.ensures.ends
 
 pub returns-in-Err-clause-ends : goal.returns-in-Err-clause-ends
 returns-in-Err-clause-ends g c = λ image good read.
-    failed_of c.args.command c.stopped.result.status
-    (inl (memory_said c.in-Err.stop c.stopped.result c.stopped.ensures (c.in-Err.ensures.whole image good read)))
+    failed_of c.args.command c.of_stop.result.status
+    (inl (memory_said c.in-Err.stop c.of_stop.result c.of_stop.ensures (c.in-Err.ensures.whole image good read)))

@@ -9,11 +9,11 @@ use Rattle.alpha_cmd.specs.Commands.Imprecise.{Planned, plan_in}
 use Rattle.alpha_cmd.specs.Commands.Record.{Records, kind}
 use Rattle.alpha_cmd.specs.Form.{needs_files_and_input}
 use Rattle.alpha_cmd.specs.RecordRan.{DecidesRecord}
-use Rattle.alpha_cmd.proofs.AfterRead.{does_after, does_stop}
+use Rattle.alpha_cmd.proofs.EffectsAfterRead.{does_after, does_stop}
 use Rattle.alpha_cmd.proofs.StageEffects.{shelf_call}
 use Rattle.alpha_cmd.proofs.JournalStatus.{stopped_no_end}
 use Rattle.alpha_cmd.proofs.Commands.Imprecise.{planned_good, planned_plain}
-use Rattle.alpha_cmd.proofs.Ended.{stopped_unended}
+use Rattle.alpha_cmd.proofs.EndStatuses.{stopped_unended}
 use Rattle.alpha_cmd.proofs.RunsOnReplies.{record_ran}
 use Rattle.alpha_cmd.proofs.record.record.Goals as goal
 
@@ -28,20 +28,20 @@ returns-in-Ok g c =
     record {
       does =
           does_after g.H.Shelf g.S.Source g.K.Sink g.N.Sink c.args.devices.now c.prepare.new.shelf
-          c.record_begun.new.devices (Planned (origin_of a.choices) a.force a.file.now)
+          c.record_from_start.new.devices (Planned (origin_of a.choices) a.force a.file.now)
           (Records a.options a.force c.args.name.now) needs_files_and_input
-          (kind a.force c.args.name.now) plan c.record_begun.result _ (λ e. cc) is.ok is.shelf
-          (c.record_begun.ensures.does a.force may);
+          (kind a.force c.args.name.now) plan c.record_from_start.result _ (λ e. cc) is.ok is.shelf
+          (c.record_from_start.ensures.does a.force may);
       ran = λ ends.
           let old = c.args.devices.now in
-          let new = c.record_begun.new.devices in
+          let new = c.record_from_start.new.devices in
           record_ran g.H.Shelf old.shelf c.prepare.new.shelf new.shelf a.file.now name (origin_of a.choices) a.force
-          plan c.record_begun.result
+          plan c.record_from_start.result
           (λ p journal decision. DecidesRecord a.options a.force p journal decision
           (drawn_in g.S.Source old.input new.input) (sink_change g.K.Sink old.out new.out)
           (sink_change g.N.Sink old.notes new.notes))
-          c.in-Ok.ensures.read is.ok (c.record_begun.ensures.ran a.force may ends);
-      keeps = λ end lost n is_end. (plan, is.ok, c.record_begun.ensures.keeps a.force may end lost n is_end);
+          c.in-Ok.ensures.read is.ok (c.record_from_start.ensures.ran a.force may ends);
+      keeps = λ end lost n is_end. (plan, is.ok, c.record_from_start.ensures.keeps a.force may end lost n is_end);
     }
 
 pub returns-in-Err : goal.returns-in-Err
@@ -54,13 +54,13 @@ returns-in-Err g c =
       does =
           does_stop g.H.Shelf g.S.Source g.K.Sink g.N.Sink c.args.devices.now c.prepare.new.shelf
           (Planned drawn a.force a.file.now) (Records a.options a.force name)
-          needs_files_and_input (kind a.force name) c.stopped.result c.in-Err.stop c.stopped.ensures
+          needs_files_and_input (kind a.force name) c.of_stop.result c.in-Err.stop c.of_stop.ensures
           c.in-Err.ensures.stage;
       ran = λ ends. absurd (stopped_unended (Planned drawn a.force a.file.now did.shelf.old) _
-          (planned_plain drawn a.force a.file.now did.shelf.old) c.in-Err.stop c.stopped.result c.stopped.ensures
+          (planned_plain drawn a.force a.file.now did.shelf.old) c.in-Err.stop c.of_stop.result c.of_stop.ensures
           c.in-Err.ensures.stage.refused ends);
       keeps = λ end lost n is.
           absurd (stopped_no_end a.options drawn a.force a.file.now name (told did)
           (Faulted did.shelf.before did.shelf.now) end lost n c.in-Err.stop
-          (sym (ap (λ (x : Answer). x.status) (c.stopped.ensures None)) ∙ is) c.in-Err.ensures.stage.refused);
+          (sym (ap (λ (x : Answer). x.status) (c.of_stop.ensures None)) ∙ is) c.in-Err.ensures.stage.refused);
     }

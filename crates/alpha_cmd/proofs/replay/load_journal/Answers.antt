@@ -1,6 +1,6 @@
 use Rattle.std.proofs.Common.{◌∙◌, ℕ, List, sym, subst}
 use Rattle.alpha_io.specs.History.{IsReadWhole}
-use Rattle.alpha_cmd.proofs.Stages.{IfOk-more}
+use Rattle.alpha_cmd.proofs.StageLaws.{IfOk-more}
 use Rattle.alpha_cmd.proofs.replay.load_journal.Goals as goal
 
 pub returns-clause-read : goal.returns-clause-read

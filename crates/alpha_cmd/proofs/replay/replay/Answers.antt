@@ -6,9 +6,9 @@ use Rattle.alpha_cmd.specs.AnswerBy.{world}
 use Rattle.alpha_cmd.specs.Commands.Replay.{RunOf, shown, form, kind, run_line}
 use Rattle.alpha_cmd.specs.Form.{needs_files}
 use Rattle.alpha_cmd.specs.Outcome.{Gives, continues}
-use Rattle.alpha_cmd.proofs.AfterRead.{does_stop}
+use Rattle.alpha_cmd.proofs.EffectsAfterRead.{does_stop}
 use Rattle.alpha_cmd.proofs.Commands.Replay.{run_plain}
-use Rattle.alpha_cmd.proofs.Ended.{stopped_unended}
+use Rattle.alpha_cmd.proofs.EndStatuses.{stopped_unended}
 use Rattle.alpha_cmd.proofs.StageEffects.{does_answer}
 use Rattle.alpha_cmd.proofs.replay.replay.Goals as goal
 
@@ -18,8 +18,8 @@ returns-in-Ok-clause-does g c =
     let r = c.in-Ok.replayed in
     let reads = c.in-Ok.ensures.stage.shelf in
     does_answer g.H.Shelf g.S.Source g.K.Sink g.N.Sink c.args.devices.now c.run_of.new.shelf
-    (form c.args.file.now c.args.journal.now) c.replayed.result
-    (continues (shown input r), (r, c.in-Ok.ensures.stage.ok, refl), c.replayed.ensures input)
+    (form c.args.file.now c.args.journal.now) c.of_replay.result
+    (continues (shown input r), (r, c.in-Ok.ensures.stage.ok, refl), c.of_replay.ensures input)
     (record {
       files = reads.files;
       takes = reads.takes;
@@ -31,14 +31,14 @@ pub returns-in-Err-clause-does : goal.returns-in-Err-clause-does
 returns-in-Err-clause-does g c =
     does_stop g.H.Shelf g.S.Source g.K.Sink g.N.Sink c.args.devices.now c.run_of.new.shelf
     (λ files. RunOf files c.args.file.now c.args.journal.now)
-    (λ w r. Gives (shown w.input r)) needs_files kind c.stopped.result c.in-Err.stop c.stopped.ensures
+    (λ w r. Gives (shown w.input r)) needs_files kind c.of_stop.result c.in-Err.stop c.of_stop.ensures
     c.in-Err.ensures.stage
 
 pub returns-in-Ok-clause-ran : goal.returns-in-Ok-clause-ran
 returns-in-Ok-clause-ran g c = λ ends.
     let old = c.args.devices.now in
     let h = c.in-Ok.ensures.read in
-    let says = c.replayed.ensures None in
+    let says = c.of_replay.ensures None in
     record {
       image = h.image;
       listed = h.listed;
@@ -66,5 +66,5 @@ pub returns-in-Err-clause-ran : goal.returns-in-Err-clause-ran
 returns-in-Err-clause-ran g c = λ ends.
     let w = world g.H.Shelf g.S.Source c.args.devices.now.shelf c.args.devices.now.input in
     absurd (stopped_unended (RunOf w.files c.args.file.now c.args.journal.now) _
-    (run_plain c.args.file.now c.args.journal.now w.files) c.in-Err.stop c.stopped.result c.stopped.ensures
+    (run_plain c.args.file.now c.args.journal.now w.files) c.in-Err.stop c.of_stop.result c.of_stop.ensures
     c.in-Err.ensures.stage.refused ends)

@@ -4,8 +4,8 @@ use Rattle.alpha_cmd.specs.Commands.Replay.{JournalOf, Plays}
 use Rattle.alpha_cmd.specs.Image.{ImageOf}
 use Rattle.alpha_restart.proofs.Agreement.{accepted_restarts}
 use Rattle.alpha_replay.proofs.ItemEffects.{replayed_is, restarted_is}
-use Rattle.alpha_cmd.proofs.Stages.{IfOk-more}
-use Rattle.alpha_cmd.proofs.AfterRead.{reads_both, second_stops}
+use Rattle.alpha_cmd.proofs.StageLaws.{IfOk-more}
+use Rattle.alpha_cmd.proofs.EffectsAfterRead.{reads_both, second_stops}
 use Rattle.alpha_cmd.proofs.Commands.Replay.{journal_after, played_by}
 use Rattle.alpha_cmd.proofs.replay.run_of.Goals as goal
 

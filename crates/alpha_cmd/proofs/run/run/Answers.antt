@@ -4,10 +4,10 @@ use Rattle.alpha_cmd.specs.RunsAsked.{DecidesRun}
 use Rattle.alpha_cmd.specs.Image.{ImageOf}
 use Rattle.alpha_cmd.specs.Commands.Run.{Runs, kind}
 use Rattle.alpha_cmd.specs.Form.{needs_files_and_input}
-use Rattle.alpha_cmd.proofs.AfterRead.{does_after, does_stop}
-use Rattle.alpha_cmd.proofs.Ended.{stopped_unended}
+use Rattle.alpha_cmd.proofs.EffectsAfterRead.{does_after, does_stop}
+use Rattle.alpha_cmd.proofs.EndStatuses.{stopped_unended}
 use Rattle.alpha_cmd.proofs.RunsOnReplies.{image_ran}
-use Rattle.alpha_cmd.proofs.Stages.{image_plain}
+use Rattle.alpha_cmd.proofs.StageLaws.{image_plain}
 use Rattle.alpha_cmd.proofs.EndsWhere.{memory_fails}
 use Rattle.alpha_cmd.proofs.run.run.Goals as goal
 
@@ -23,7 +23,7 @@ pub returns-in-Err-clause-does : goal.returns-in-Err-clause-does
 returns-in-Err-clause-does g c =
     does_stop g.H.Shelf g.S.Source g.K.Sink g.N.Sink c.args.devices.now c.load.new.shelf
     (λ files. ImageOf files c.args.file.now) (λ w. Runs c.args.options w.input)
-    needs_files_and_input kind c.stopped.result c.in-Err.stop c.stopped.ensures c.in-Err.ensures.stage
+    needs_files_and_input kind c.of_stop.result c.in-Err.stop c.of_stop.ensures c.in-Err.ensures.stage
 
 pub returns-in-Ok-clause-ran : goal.returns-in-Ok-clause-ran
 returns-in-Ok-clause-ran g c = λ ends.
@@ -38,7 +38,7 @@ pub returns-in-Err-clause-ran : goal.returns-in-Err-clause-ran
 returns-in-Err-clause-ran g c = λ ends.
     let files = g.H.Shelf.files c.args.devices.now.shelf in
     absurd (stopped_unended (ImageOf files c.args.file.now) _
-    (image_plain files c.args.file.now) c.in-Err.stop c.stopped.result c.stopped.ensures
+    (image_plain files c.args.file.now) c.in-Err.stop c.of_stop.result c.of_stop.ensures
     c.in-Err.ensures.stage.refused ends)
 
 pub returns-in-Ok-clause-ends : goal.returns-in-Ok-clause-ends
@@ -46,4 +46,4 @@ returns-in-Ok-clause-ends g c = λ image good has read. c.run_image.ensures.ends
 
 pub returns-in-Err-clause-ends : goal.returns-in-Err-clause-ends
 returns-in-Err-clause-ends g c = λ image good has read.
-    memory_fails _ c.in-Err.stop c.stopped.result c.stopped.ensures (c.in-Err.ensures.whole image good read)
+    memory_fails _ c.in-Err.stop c.of_stop.result c.of_stop.ensures (c.in-Err.ensures.whole image good read)

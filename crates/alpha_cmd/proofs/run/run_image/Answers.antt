@@ -7,7 +7,7 @@ use Rattle.alpha_cmd.specs.Commands.Run.{on}
 use Rattle.alpha_cmd.specs.CommandEffect.{CommandEffect}
 use Rattle.alpha_cmd.specs.RunsAsked.{DecidesRun, WhereEnded}
 use Rattle.alpha_cmd.proofs.StageEffects.{does_not_start}
-use Rattle.alpha_cmd.proofs.Ended.{said_unended}
+use Rattle.alpha_cmd.proofs.EndStatuses.{said_unended}
 use Rattle.alpha_cmd.proofs.run.run_image.Goals as goal
 
 pub returns-in-Ok-clause-does : goal.returns-in-Ok-clause-does

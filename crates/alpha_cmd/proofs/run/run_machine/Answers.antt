@@ -4,8 +4,8 @@ use Rattle.alpha_seq.specs.Devices.{drawn}
 use Rattle.alpha_run.proofs.ObservedSteps.{end_of_fed, end_of_cut}
 use Rattle.alpha_cmd.specs.Commands.Run.{on}
 use Rattle.alpha_cmd.specs.Ran.{end_on}
-use Rattle.alpha_cmd.proofs.Ran.{ran_shows, ran_whole, cut_fronts}
-use Rattle.alpha_cmd.proofs.Ended.{cut_unended}
+use Rattle.alpha_cmd.proofs.RunEffects.{ran_shows, ran_whole, cut_fronts}
+use Rattle.alpha_cmd.proofs.EndStatuses.{cut_unended}
 use Rattle.alpha_cmd.proofs.RunsOnReplies.{ran_decides}
 use Rattle.alpha_cmd.proofs.StreamedWrites.{does_cut}
 use Rattle.alpha_cmd.proofs.EndsWhere.{cut_fails}
@@ -31,11 +31,11 @@ returns-in-Err-clause-does g c =
     let new = c.run_sequential.new in
     let cut = c.in-Err.ensures.broken in
     does_cut g.H.Shelf g.S.Source g.K.Sink g.N.Sink old new.input new.out new.notes
-    (on c.args.options c.args.machine.now.image) c.in-Err.fault c.cut_short.result refl
+    (on c.args.options c.args.machine.now.image) c.in-Err.fault c.of_device_fault.result refl
     (cut_fronts c.args.options c.args.machine.now _ c.in-Err.fault (drawn g.S.Source old.input new.input)
     (sink_change g.K.Sink old.out new.out) (sink_change g.N.Sink old.notes new.notes)
     (record { completion = c.requires.completion; state = c.requires.start }) cut refl)
-    c.cut_short.ensures cut.cause
+    c.of_device_fault.ensures cut.cause
     (end_of_cut (drawn g.S.Source old.input new.input) cut.left cut.events cut.fed cut.leaves_end)
 
 pub returns-in-Ok-clause-ran : goal.returns-in-Ok-clause-ran
@@ -48,7 +48,8 @@ returns-in-Ok-clause-ran g c = λ ends.
     c.in-Ok.ensures.made c.after_run.result c.after_run.ensures
 
 pub returns-in-Err-clause-ran : goal.returns-in-Err-clause-ran
-returns-in-Err-clause-ran g c = λ ends. absurd (cut_unended c.in-Err.fault c.cut_short.result c.cut_short.ensures ends)
+returns-in-Err-clause-ran g c =
+    λ ends. absurd (cut_unended c.in-Err.fault c.of_device_fault.result c.of_device_fault.ensures ends)
 
 pub returns-in-Ok-clause-ends : goal.returns-in-Ok-clause-ends
 returns-in-Ok-clause-ends g c =
@@ -62,4 +63,4 @@ returns-in-Ok-clause-ends g c =
     inl (end_on decided.ran, decided.status_is)
 
 pub returns-in-Err-clause-ends : goal.returns-in-Err-clause-ends
-returns-in-Err-clause-ends g c = cut_fails _ c.in-Err.fault c.cut_short.result c.cut_short.ensures
+returns-in-Err-clause-ends g c = cut_fails _ c.in-Err.fault c.of_device_fault.result c.of_device_fault.ensures

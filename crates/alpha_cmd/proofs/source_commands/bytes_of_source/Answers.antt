@@ -1,7 +1,7 @@
 use Rattle.std.proofs.Common.{List, ℕ, subst}
 use Rattle.alpha_cmd.specs.SourceCommands.{Bytes}
 use Rattle.alpha_cmd.specs.Outcome.{continues}
-use Rattle.alpha_cmd.proofs.Stages.{IfOk-more}
+use Rattle.alpha_cmd.proofs.StageLaws.{IfOk-more}
 use Rattle.alpha_cmd.proofs.source_commands.bytes_of_source.Goals as goal
 
 pub returns-clause-read : goal.returns-clause-read

@@ -3,10 +3,10 @@ use Rattle.alpha_io.specs.History.{Kept}
 use Rattle.alpha_cmd.specs.Form.{keeps_last, needs_files}
 use Rattle.alpha_cmd.specs.Keeping.{KeepsAs}
 use Rattle.alpha_cmd.specs.SourceCommands.{MakesOfSource}
-use Rattle.alpha_cmd.proofs.AfterRead.{does_stop}
+use Rattle.alpha_cmd.proofs.EffectsAfterRead.{does_stop}
 use Rattle.alpha_cmd.proofs.StageEffects.{does_make}
 use Rattle.alpha_cmd.proofs.SourceCommands.{makes_plain}
-use Rattle.alpha_cmd.proofs.Stages.{stopped_undone}
+use Rattle.alpha_cmd.proofs.StageLaws.{stopped_undone}
 use Rattle.alpha_cmd.proofs.source_commands.make.Goals as goal
 
 pub returns-in-Ok-clause-does : goal.returns-in-Ok-clause-does
@@ -36,11 +36,11 @@ pub returns-in-Err-clause-does : goal.returns-in-Err-clause-does
 returns-in-Err-clause-does g c =
     does_stop g.H.Shelf g.S.Source g.K.Sink g.N.Sink c.args.devices.now c.bytes_of_source.new.shelf
     (λ files. MakesOfSource c.args.command files c.args.file.now) (λ w. KeepsAs w c.args.out.now)
-    needs_files (keeps_last c.args.out.now) c.stopped.result c.in-Err.stop c.stopped.ensures c.in-Err.ensures.stage
+    needs_files (keeps_last c.args.out.now) c.of_stop.result c.in-Err.stop c.of_stop.ensures c.in-Err.ensures.stage
 
 pub returns-in-Err-clause-kept : goal.returns-in-Err-clause-kept
 returns-in-Err-clause-kept g c = λ done.
     let files = g.H.Shelf.files c.args.devices.now.shelf in
     absurd (stopped_undone (MakesOfSource c.args.command files c.args.file.now) _
-    (makes_plain c.args.command files c.args.file.now) c.in-Err.stop c.stopped.result c.stopped.ensures
+    (makes_plain c.args.command files c.args.file.now) c.in-Err.stop c.of_stop.result c.of_stop.ensures
     c.in-Err.ensures.stage.refused done)

@@ -6,7 +6,7 @@ use Rattle.alpha_cmd.specs.Asks.{AsksFor}
 use Rattle.alpha_cmd.specs.Call.{Call, called}
 use Rattle.alpha_cmd.specs.RunsAsked.{RunsAsked}
 use Rattle.alpha_cmd.proofs.CallPromises as promised
-use Rattle.alpha_cmd.proofs.Ended.{run_end_class, sink_unended}
+use Rattle.alpha_cmd.proofs.EndStatuses.{run_end_class, sink_unended}
 use Rattle.alpha_cmd.proofs.RunsOnReplies.{listed_on, ran_on, runs_on}
 use Rattle.alpha_cmd.proofs.EndsWhere.{delivered_ends, failed_ends}
 use Rattle.alpha_cmd.proofs.top.alpha_top.Goals as goal

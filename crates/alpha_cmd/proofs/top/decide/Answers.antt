@@ -3,7 +3,7 @@ use Rattle.alpha_io.specs.Faults.{Faulted}
 use Rattle.alpha_io.proofs.ShelfLaws.{KeepsFiles-refl}
 use Rattle.alpha_request.specs.Command.{Command, record_run}
 use Rattle.alpha_request.specs.CommandOf.{command_of}
-use Rattle.alpha_request.proofs.Blocks.{asked_blocks}
+use Rattle.alpha_request.proofs.TrialBlocks.{asked_blocks}
 use Rattle.alpha_cmd.specs.AnswerBy.{told}
 use Rattle.alpha_cmd.specs.Call.{called}
 use Rattle.alpha_cmd.specs.Decision.{answer_in}
@@ -15,7 +15,7 @@ use Rattle.alpha_cmd.specs.Promises.{tried_in}
 use Rattle.alpha_cmd.specs.RunsAsked.{DecidesAsked, EndsAsRun}
 use Rattle.alpha_cmd.specs.Replied.{Replied}
 use Rattle.alpha_cmd.proofs.CallEndings.{Leaves-all, OutcomeOrFault-map}
-use Rattle.alpha_cmd.proofs.Ended.{said_unended, words_unended}
+use Rattle.alpha_cmd.proofs.EndStatuses.{said_unended, words_unended}
 use Rattle.alpha_cmd.proofs.SessionsTold.{tail_same}
 use Rattle.alpha_cmd.proofs.AttemptedBy.{asked_tried, kind_is}
 use Rattle.alpha_cmd.proofs.EndsWhere.{failed_ends}

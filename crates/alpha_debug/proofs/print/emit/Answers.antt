@@ -1,4 +1,4 @@
-use Rattle.alpha_debug.proofs.Sinks.{OnOk-both, OnErr-map}
+use Rattle.alpha_debug.proofs.SinkEffects.{OnOk-both, OnErr-map}
 use Rattle.alpha_debug.proofs.BlockContents.{AppendsOutput-for, SinkFailsWith-for}
 use Rattle.alpha_debug.proofs.print.emit.Goals as goal
 

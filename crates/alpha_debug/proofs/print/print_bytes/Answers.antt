@@ -1,6 +1,7 @@
 use Rattle.std.proofs.Common.{◌≡◌, ◌<◌, ◌*◌, ◌+◌, ◌++◌, ℕ, List, sym, ap, subst, ◌∙◌, arith}
 use Rattle.alpha_debug.specs.Lines.{rows, memory_line, memory_row}
-use Rattle.alpha_debug.proofs.Sinks.{session_OnErr-any, AppendsOutput-both, SinkFailsWith-after, SinkFailsWith-more}
+use Rattle.alpha_debug.proofs.SinkEffects.{session_OnErr-any, AppendsOutput-both, SinkFailsWith-after}
+use Rattle.alpha_debug.proofs.SinkEffects.{SinkFailsWith-more}
 use Rattle.alpha_debug.proofs.RowTexts.{rows-rest, rows-more, row-range}
 use Rattle.alpha_debug.specs.OutputChange.{output_change_by, AppendsOutput, SinkFailsWith}
 use Rattle.alpha_debug.proofs.print.print_bytes.Goals as goal

@@ -5,7 +5,7 @@ use Rattle.std.proofs.lemmas.List.{take_all}
 use Rattle.alpha_debug.specs.declared.debugger.SessionState.{SessionState}
 use Rattle.alpha_debug.specs.declared.debugger.SessionState.TheVariants.{Continues, Quits}
 use Rattle.alpha_debug.specs.Effects.{FeedsBytes, FeedFails, Carries, CarryFails}
-use Rattle.alpha_debug.proofs.Sinks.{AppendsOutput-none, session_OnErr-any}
+use Rattle.alpha_debug.proofs.SinkEffects.{AppendsOutput-none, session_OnErr-any}
 use Rattle.alpha_debug.proofs.Scripts.{FeedsBytes-none, FeedsBytes-then, FeedFails-then, FeedsBytes-quit}
 use Rattle.alpha_debug.proofs.Scripts.{FeedFails-more, take-get_or-drop}
 use Rattle.alpha_debug.proofs.HandedLines.{carries_none, carries_then, carries_quit, carry_fails_then, carry_fails_more}

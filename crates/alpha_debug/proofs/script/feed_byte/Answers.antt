@@ -4,7 +4,7 @@ use Rattle.std.proofs.lemmas.Bool.{ne_eqb}
 use Rattle.std.proofs.lemmas.Bool.Decides.{nat_tests}
 use Rattle.std.specs.Str.Lines.{strip_carriage_return}
 use Rattle.alpha_debug.specs.Effects.{FeedsBytes, FeedFails, Carries, CarryFails}
-use Rattle.alpha_debug.proofs.Sinks.{AppendsOutput-none, session_OnErr-any}
+use Rattle.alpha_debug.proofs.SinkEffects.{AppendsOutput-none, session_OnErr-any}
 use Rattle.alpha_debug.proofs.Scripts.{FeedsBytes-line_feed, line_feed-FeedFails, FeedsBytes-other_byte, held_other}
 use Rattle.alpha_debug.proofs.Scripts.{held_more, held_full}
 use Rattle.alpha_debug.proofs.HandedLines.{carries_feed, carry_feed_fails, carries_other}

@@ -3,7 +3,7 @@ use Rattle.alpha_io.specs.SinkChange.{sink_change}
 use Rattle.alpha_seq.specs.declared.end.End.{End}
 use Rattle.alpha_debug.specs.OutputChange.{output_change}
 use Rattle.alpha_debug.specs.Effects.{StepsUntil}
-use Rattle.alpha_debug.proofs.Steps.{RunsTo-StepsUntil, walked-kept, walked-quiet, StepUntilFails-cut}
+use Rattle.alpha_debug.proofs.DebuggerSteps.{RunsTo-StepsUntil, walked-kept, walked-quiet, StepUntilFails-cut}
 use Rattle.alpha_debug.proofs.stepping.step_until.Goals as goal
 
 pub returns-in-Ok-clause-ok : goal.returns-in-Ok-clause-ok

@@ -2,8 +2,8 @@ use Rattle.std.proofs.Common.{ℕ, List, [], subst}
 use Rattle.alpha_debug.specs.Command.{command_of}
 use Rattle.alpha_debug.specs.OutputChange.{output_change}
 use Rattle.alpha_debug.specs.Effects.{Answers}
-use Rattle.alpha_debug.proofs.Sinks.{session_OnErr-any}
-use Rattle.alpha_debug.proofs.Pieces.{answers_stopped}
+use Rattle.alpha_debug.proofs.SinkEffects.{session_OnErr-any}
+use Rattle.alpha_debug.proofs.ScriptPieces.{answers_stopped}
 use Rattle.alpha_debug.proofs.transcript.answer_last.Goals as goal
 
 pub returns-in_err-flush-clause-refused : goal.returns-in_err-flush-clause-refused

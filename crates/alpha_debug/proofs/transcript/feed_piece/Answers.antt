@@ -1,8 +1,8 @@
 use Rattle.std.proofs.Common.{ℕ, List, [], subst}
 use Rattle.alpha_debug.specs.OutputChange.{output_change}
 use Rattle.alpha_debug.specs.Effects.{FeedsBytes}
-use Rattle.alpha_debug.proofs.Sinks.{session_OnErr-any}
-use Rattle.alpha_debug.proofs.Pieces.{FeedsBytes-put, FeedsBytes-stopped}
+use Rattle.alpha_debug.proofs.SinkEffects.{session_OnErr-any}
+use Rattle.alpha_debug.proofs.ScriptPieces.{FeedsBytes-put, FeedsBytes-stopped}
 use Rattle.alpha_debug.proofs.HandedLines.{carries_put, carries_stopped}
 use Rattle.alpha_debug.proofs.transcript.feed_piece.Goals as goal
 

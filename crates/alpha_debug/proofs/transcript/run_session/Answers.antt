@@ -13,7 +13,7 @@ use Rattle.alpha_debug.proofs.ScriptUnderway.{underway_fails, underway_unread, u
 use Rattle.alpha_debug.proofs.HandedSessions.{handing_start, handing_more, handing_quit, handing_fails, handing_unread}
 use Rattle.alpha_debug.proofs.HandedSessions.{handing_large, handing_closed}
 use Rattle.alpha_io.specs.History.{HasGiven}
-use Rattle.alpha_debug.proofs.Sinks.{AppendsOutput-none}
+use Rattle.alpha_debug.proofs.SinkEffects.{AppendsOutput-none}
 use Rattle.alpha_debug.specs.OutputChange.{output_change}
 use Rattle.alpha_debug.proofs.transcript.run_session.Goals as goal
 

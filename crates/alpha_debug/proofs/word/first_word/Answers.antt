@@ -1,4 +1,4 @@
-use Rattle.alpha_debug.proofs.Words.{first_at}
+use Rattle.alpha_debug.proofs.LineWords.{first_at}
 use Rattle.alpha_debug.proofs.word.first_word.Goals as goal
 
 pub returns : goal.returns

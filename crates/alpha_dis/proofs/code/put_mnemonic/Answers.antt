@@ -1,5 +1,5 @@
 use Rattle.std.proofs.Common.{◌≤◌, length, arith}
-use Rattle.alpha_text.proofs.Names.{name_of-short}
+use Rattle.alpha_text.proofs.NameLookups.{name_of-short}
 use Rattle.alpha_dis.proofs.NameSizes.{name_of-long}
 use Rattle.alpha_dis.proofs.code.put_mnemonic.Goals as goal
 

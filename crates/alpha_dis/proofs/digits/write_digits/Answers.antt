@@ -2,7 +2,8 @@ use Rattle.std.proofs.Common.{◌≡◌, ℕ, ◌+◌, ◌-◌, ◌/◌, ◌%◌
 use Rattle.std.proofs.Common.{ap, subst, ◌∙◌, add-one, arith}
 use Rattle.std.specs.Fmt.{digit_glyph}
 use Rattle.std.proofs.lemmas.List.{drop_all, drop-set, drop-set-lt, length-set}
-use Rattle.alpha_dis.proofs.Hexadecimal.{onto, onto-none, onto-more, onto-last, second_digit, fewer_digits}
+use Rattle.alpha_dis.proofs.Hexadecimal.{hex_digits_onto, hex_digits_onto-none, hex_digits_onto-more}
+use Rattle.alpha_dis.proofs.Hexadecimal.{hex_digits_onto-last, second_digit, fewer_digits}
 use Rattle.alpha_dis.proofs.digits.write_digits.Goals as goal
 
 -- what stands from the place on where a digit was written
@@ -24,7 +25,7 @@ loop-rest-init c =
       last =
           written_at c.args.out.now 15 c.digit.result (digit_glyph false (c.args.number % 16))
           (omega (arith, c.told-out)) c.digit.ensures;
-      written = ap (onto 16 c.args.number) none ∙ onto-none c.args.number;
+      written = ap (hex_digits_onto 16 c.args.number) none ∙ hex_digits_onto-none c.args.number;
     }
 
 pub loop-rest-preserved : goal.loop-rest-preserved
@@ -43,15 +44,17 @@ loop-rest-preserved c =
       within = subst (λ (k : ℕ). rest < 16 ^ k) back (fewer_digits l.at l.rest l.invariant.within);
       last = written_at l.out at x (digit_glyph false (rest % 16)) (omega arith) c.digit-in-loop-rest.ensures;
       written =
-          ap (onto (at + 1) rest) behind
-          ∙ (ap (λ (k : ℕ). onto k rest (drop l.at l.out)) (sym back)
-          ∙ (ap (onto l.at rest) l.invariant.last
-          ∙ (sym (onto-more l.at l.rest (drop (l.at + 1) l.out) more)
-          ∙ (ap (λ (k : ℕ). onto k l.rest (drop (l.at + 1) l.out)) (sym (add-one l.at)) ∙ l.invariant.written))));
+          ap (hex_digits_onto (at + 1) rest) behind
+          ∙ (ap (λ (k : ℕ). hex_digits_onto k rest (drop l.at l.out)) (sym back)
+          ∙ (ap (hex_digits_onto l.at rest) l.invariant.last
+          ∙ (sym (hex_digits_onto-more l.at l.rest (drop (l.at + 1) l.out) more)
+          ∙ (ap (λ (k : ℕ). hex_digits_onto k l.rest (drop (l.at + 1) l.out)) (sym (add-one l.at))
+          ∙ l.invariant.written))));
     }
 
 pub returns-clause-value : goal.returns-clause-value
 returns-clause-value c =
     let l = c.loop-rest in
     l.invariant.last
-    ∙ (sym (onto-last (l.at + 1) l.rest (drop (l.at + 1) l.out) c.loop-rest-test.false) ∙ l.invariant.written)
+    ∙ (sym (hex_digits_onto-last (l.at + 1) l.rest (drop (l.at + 1) l.out) c.loop-rest-test.false)
+    ∙ l.invariant.written)

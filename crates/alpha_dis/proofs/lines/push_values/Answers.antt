@@ -1,7 +1,7 @@
 use Rattle.std.proofs.Common.{◌≡◌, ◌<◌, ◌≤◌, ◌++◌, ◌∷◌, [], List, ℕ, decimal, length, get_or, ap, ◌∙◌, length-append}
 use Rattle.std.proofs.Common.{arith}
 use Rattle.std.proofs.lemmas.Fmt.{length-decimal-le}
-use Rattle.alpha_dis.proofs.Texts.{values-first, values-more}
+use Rattle.alpha_dis.proofs.ListingTexts.{values-first, values-more}
 use Rattle.alpha_dis.proofs.lines.push_values.Goals as goal
 use Rattle.alpha_dis.proofs.lines.push_values.Goals.{then-n-gt0, else-n-gt0}
 

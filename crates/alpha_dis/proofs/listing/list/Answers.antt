@@ -2,7 +2,7 @@ use Rattle.std.proofs.Common.{[], List, ℕ, subst, append-nil}
 use Rattle.alpha_io.specs.SinkChange.{sink_change_by, WritesPartly}
 use Rattle.alpha_dis.specs.SinkEffect.{Takes}
 use Rattle.alpha_dis.specs.Listing.{listing}
-use Rattle.alpha_dis.proofs.Blocks.{WritesPartly-all, Puts-held, SinkFails-held}
+use Rattle.alpha_dis.proofs.BlockEffects.{WritesPartly-all, Puts-held, SinkFails-held}
 use Rattle.alpha_dis.proofs.listing.list.Goals as goal
 
 pub returns-in_err-flush-clause-prefix : goal.returns-in_err-flush-clause-prefix

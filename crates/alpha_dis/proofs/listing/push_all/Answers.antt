@@ -5,8 +5,9 @@ use Rattle.alpha_io.specs.SinkChange.{sink_change, sink_change_by}
 use Rattle.alpha_image.specs.Parts.{pieces}
 use Rattle.alpha_dis.specs.SinkEffect.{Takes, SinkFails}
 use Rattle.alpha_dis.specs.Listing.{text, heading, code_line, piece_lines, listing}
-use Rattle.alpha_dis.proofs.Blocks.{listing_OnErr-any, Takes-three, SinkFails-more, SinkFails-second, SinkFails-third}
-use Rattle.alpha_dis.proofs.Texts.{text-listing}
+use Rattle.alpha_dis.proofs.BlockEffects.{listing_OnErr-any, Takes-three, SinkFails-more, SinkFails-second}
+use Rattle.alpha_dis.proofs.BlockEffects.{SinkFails-third}
+use Rattle.alpha_dis.proofs.ListingTexts.{text-listing}
 use Rattle.alpha_dis.proofs.listing.push_all.Goals as goal
 
 pub returns-in_err-push_start-clause-refused : goal.returns-in_err-push_start-clause-refused

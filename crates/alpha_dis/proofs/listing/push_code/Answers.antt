@@ -4,8 +4,8 @@ use Rattle.alpha_io.specs.SinkChange.{sink_change_by}
 use Rattle.alpha_text.specs.Canon.{canon}
 use Rattle.alpha_dis.specs.SinkEffect.{Takes, SinkFails}
 use Rattle.alpha_dis.specs.Listing.{ended, text, code_line}
-use Rattle.alpha_dis.proofs.Blocks.{listing_OnErr-any, Takes-more, Takes-then, SinkFails-held}
-use Rattle.alpha_dis.proofs.Texts.{text-map-more, text-map-split}
+use Rattle.alpha_dis.proofs.BlockEffects.{listing_OnErr-any, Takes-more, Takes-then, SinkFails-held}
+use Rattle.alpha_dis.proofs.ListingTexts.{text-map-more, text-map-split}
 use Rattle.alpha_dis.proofs.listing.push_code.Goals as goal
 
 pub returns-in_err-make_room-clause-refused : goal.returns-in_err-make_room-clause-refused

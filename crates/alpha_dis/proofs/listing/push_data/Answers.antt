@@ -3,11 +3,11 @@ use Rattle.std.specs.List.{flat_map}
 use Rattle.std.proofs.lemmas.List.{take_all}
 use Rattle.alpha_io.specs.SinkChange.{sink_change, sink_change_by}
 use Rattle.alpha_image.specs.Parts.{pieces, Piece}
-use Rattle.alpha_image.proofs.Pieces.{length-pieces_of}
+use Rattle.alpha_image.proofs.SegmentShares.{length-pieces_of}
 use Rattle.alpha_dis.specs.SinkEffect.{Takes, SinkFails}
 use Rattle.alpha_dis.specs.Listing.{text, piece_lines, piece_of}
-use Rattle.alpha_dis.proofs.Blocks.{listing_OnErr-any, Takes-then, SinkFails-second}
-use Rattle.alpha_dis.proofs.Texts.{text-pieces-more, text-pieces-split}
+use Rattle.alpha_dis.proofs.BlockEffects.{listing_OnErr-any, Takes-then, SinkFails-second}
+use Rattle.alpha_dis.proofs.ListingTexts.{text-pieces-more, text-pieces-split}
 use Rattle.alpha_dis.proofs.listing.push_data.Goals as goal
 
 pub returns-in_err-push_segment-clause-refused : goal.returns-in_err-push_segment-clause-refused

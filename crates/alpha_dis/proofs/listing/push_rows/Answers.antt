@@ -4,8 +4,8 @@ use Rattle.std.proofs.lemmas.Bool.Decides.{nat_tests}
 use Rattle.alpha_io.specs.SinkChange.{sink_change_by}
 use Rattle.alpha_dis.specs.SinkEffect.{Takes, SinkFails}
 use Rattle.alpha_dis.specs.Listing.{ended, text, byte_line, rows}
-use Rattle.alpha_dis.proofs.Blocks.{listing_OnErr-any, Takes-more, Takes-then, SinkFails-held}
-use Rattle.alpha_dis.proofs.Texts.{take-row, drop-row, text-rows-some}
+use Rattle.alpha_dis.proofs.BlockEffects.{listing_OnErr-any, Takes-more, Takes-then, SinkFails-held}
+use Rattle.alpha_dis.proofs.ListingTexts.{take-row, drop-row, text-rows-some}
 use Rattle.alpha_dis.proofs.listing.push_rows.Goals as goal
 
 pub returns-in_err-make_room-clause-refused : goal.returns-in_err-make_room-clause-refused

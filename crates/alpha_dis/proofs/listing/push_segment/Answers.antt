@@ -3,9 +3,9 @@ use Rattle.alpha_io.specs.SinkChange.{sink_change, sink_change_by}
 use Rattle.alpha_image.specs.Parts.{Piece}
 use Rattle.alpha_dis.specs.SinkEffect.{Takes, SinkFails}
 use Rattle.alpha_dis.specs.Listing.{ended, text, count_line, rows, byte_line, segment_line, piece_lines, piece_of}
-use Rattle.alpha_dis.proofs.Blocks.{listing_OnErr-any, Takes-more, Takes-three, SinkFails-more, SinkFails-second}
-use Rattle.alpha_dis.proofs.Blocks.{SinkFails-third}
-use Rattle.alpha_dis.proofs.Texts.{text-piece_lines}
+use Rattle.alpha_dis.proofs.BlockEffects.{listing_OnErr-any, Takes-more, Takes-three, SinkFails-more, SinkFails-second}
+use Rattle.alpha_dis.proofs.BlockEffects.{SinkFails-third}
+use Rattle.alpha_dis.proofs.ListingTexts.{text-piece_lines}
 use Rattle.alpha_dis.proofs.listing.push_segment.Goals as goal
 
 pub returns-in_err-make_room-clause-refused : goal.returns-in_err-make_room-clause-refused

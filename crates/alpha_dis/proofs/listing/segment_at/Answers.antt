@@ -1,5 +1,5 @@
 use Rattle.std.proofs.Common.{sym}
-use Rattle.alpha_dis.proofs.Texts.{piece_at}
+use Rattle.alpha_dis.proofs.ListingTexts.{piece_at}
 use Rattle.alpha_dis.proofs.listing.segment_at.Goals as goal
 
 pub returns : goal.returns

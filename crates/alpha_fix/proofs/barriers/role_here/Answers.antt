@@ -1,6 +1,6 @@
 use Rattle.alpha_asm.specs.Assembled.{item_at}
 use Rattle.alpha_fix.specs.FixedLines.{items_of, names_code}
-use Rattle.alpha_fix.proofs.Roles.{other_role, insn_role}
+use Rattle.alpha_fix.proofs.LineRoles.{other_role, insn_role}
 use Rattle.std.proofs.Common.{sym, ◌∙◌}
 use Rattle.alpha_fix.proofs.barriers.role_here.Goals as goal
 

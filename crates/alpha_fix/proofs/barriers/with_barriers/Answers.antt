@@ -3,7 +3,7 @@ use Rattle.alpha_asm.specs.LineKinds.{kinds_of}
 use Rattle.alpha_fix.specs.FixedLines.{items_of}
 use Rattle.alpha_fix.proofs.FixedItems.{items_by_lines}
 use Rattle.alpha_fix.proofs.FixedText.{TextUnderway, TextUnderway-start, fixed_now, word_on, other_on}
-use Rattle.alpha_fix.proofs.Roles.{kinds_from-first}
+use Rattle.alpha_fix.proofs.LineRoles.{kinds_from-first}
 use Rattle.alpha_fix.proofs.barriers.with_barriers.Goals as goal
 use Rattle.alpha_fix.proofs.barriers.with_barriers.Goals.{in-Insn+in_ok-put_line-in-Insn}
 use Rattle.alpha_fix.proofs.barriers.with_barriers.Goals.{in-Other+in_ok-put_line-in-Other}

@@ -1,7 +1,7 @@
 use Rattle.std.proofs.Common.{◌≡◌, length}
 use Rattle.alpha_asm.specs.SourceLines.{source_lines}
 use Rattle.alpha_fix.proofs.FixedText.{TextUnderway}
-use Rattle.alpha_fix.proofs.Roles.{kinds_from}
+use Rattle.alpha_fix.proofs.LineRoles.{kinds_from}
 use Rattle.alpha_fix.proofs.barriers.with_barriers.Given as goal
 
 abbrev pub decreases-loop-rest : goal.decreases-loop-rest

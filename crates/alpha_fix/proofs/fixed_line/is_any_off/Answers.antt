@@ -2,7 +2,7 @@ use Rattle.std.proofs.Common.{length, map}
 use Rattle.alpha_operands.specs.Values.{view}
 use Rattle.alpha_asm.specs.Statement.{cell_of, values_up_to}
 use Rattle.alpha_fix.specs.FixedLines.{items_of, has_offset, names_code}
-use Rattle.alpha_fix.proofs.Values.{any_of, on_still}
+use Rattle.alpha_fix.proofs.ValueOffsets.{any_of, on_still}
 use Rattle.alpha_fix.proofs.fixed_line.is_any_off.Goals as goal
 
 pub loop-preserved : goal.loop-preserved

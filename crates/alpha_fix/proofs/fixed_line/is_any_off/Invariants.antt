@@ -1,7 +1,7 @@
 use Rattle.std.proofs.Common.{◌≡◌, ◌-◌, length, map}
 use Rattle.alpha_asm.specs.Statement.{cell_of, values_up_to}
 use Rattle.alpha_fix.specs.FixedLines.{items_of, has_offset, names_code}
-use Rattle.alpha_fix.proofs.Values.{any_of}
+use Rattle.alpha_fix.proofs.ValueOffsets.{any_of}
 use Rattle.alpha_fix.proofs.fixed_line.is_any_off.Given as goal
 
 -- whether a value from here on is off says whether one of all is

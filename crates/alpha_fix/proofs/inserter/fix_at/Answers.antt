@@ -1,8 +1,8 @@
 use Rattle.std.proofs.Common.{◌∙◌, arith}
 use Rattle.alpha_asm.specs.Program.{program_of}
 use Rattle.alpha_fix.proofs.FixAnswers.{ok_with, err_with, is_fixed_source, refused_far}
-use Rattle.alpha_fix.proofs.Marks.{rise-less, cuts_rise}
-use Rattle.alpha_fix.proofs.Sources.{assembled-first_refused, words_are, code_base_is, text_size}
+use Rattle.alpha_fix.proofs.BarrierMarks.{rise-less, cuts_rise}
+use Rattle.alpha_fix.proofs.SourcePrograms.{assembled-first_refused, words_are, code_base_is, text_size}
 use Rattle.alpha_fix.proofs.inserter.fix_at.Goals as goal
 
 pub with_barriers-requires-clause-base : goal.with_barriers-requires-clause-base

@@ -1,6 +1,6 @@
 use Rattle.std.proofs.Common.{arith}
 use Rattle.std.proofs.lemmas.Grind.{common_steps}
-use Rattle.alpha_fix.proofs.Sources.{no_cuts-IsFixedSource}
+use Rattle.alpha_fix.proofs.SourcePrograms.{no_cuts-IsFixedSource}
 use Rattle.alpha_fix.proofs.inserter.fix_image.Goals as goal
 
 pub returns-then-is_empty-clause-ok : goal.returns-then-is_empty-clause-ok

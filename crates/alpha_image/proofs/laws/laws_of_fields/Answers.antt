@@ -1,6 +1,6 @@
 use Rattle.alpha_image.proofs.FieldRules.{tests_decide, FieldsFit-least, least-FieldsFit}
 use Rattle.alpha_image.proofs.Spelled.{parts_fault-IsImage}
-use Rattle.alpha_image.proofs.Form.{IsImage-parts_fault}
+use Rattle.alpha_image.proofs.ReadSpelling.{IsImage-parts_fault}
 use Rattle.alpha_image.proofs.laws.laws_of_fields.Goals as goal
 
 pub returns-clause-tests : goal.returns-clause-tests

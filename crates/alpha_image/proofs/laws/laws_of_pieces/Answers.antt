@@ -1,4 +1,4 @@
-use Rattle.alpha_image.proofs.Pieces.{length-pieces_of, flat_map-pieces_of}
+use Rattle.alpha_image.proofs.SegmentShares.{length-pieces_of, flat_map-pieces_of}
 use Rattle.alpha_image.proofs.laws.laws_of_pieces.Goals as goal
 
 pub returns-clause-bytes : goal.returns-clause-bytes

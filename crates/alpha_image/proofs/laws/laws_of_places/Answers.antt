@@ -1,4 +1,4 @@
-use Rattle.alpha_image.proofs.Places.{place_of-code, place_of-entry}
+use Rattle.alpha_image.proofs.CodePlaces.{place_of-code, place_of-entry}
 use Rattle.alpha_image.proofs.laws.laws_of_places.Goals as goal
 
 pub returns-clause-places : goal.returns-clause-places

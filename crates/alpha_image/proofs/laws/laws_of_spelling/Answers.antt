@@ -1,7 +1,7 @@
 use Rattle.std.proofs.Common.{ap, ◌∙◌}
 use Rattle.alpha_image.specs.ImageFault.{first_fault}
 use Rattle.alpha_image.specs.PartsOf.{parts_of}
-use Rattle.alpha_image.proofs.Form.{IsBytes-All, image-no_fault}
+use Rattle.alpha_image.proofs.ReadSpelling.{IsBytes-All, image-no_fault}
 use Rattle.alpha_image.proofs.Spelled.{first_fault-image_spelling, one_image, parts_of-image_spelling}
 use Rattle.alpha_image.proofs.laws.laws_of_spelling.Goals as goal
 

@@ -8,8 +8,9 @@ use Rattle.alpha_image.specs.Parts.{Parts, image_spelling}
 use Rattle.alpha_image.specs.PartsOf.{parts_with, parts_of}
 use Rattle.alpha_image.specs.ImageFault.{form_fault, word_fault}
 use Rattle.alpha_image.specs.Tells.{Tells}
-use Rattle.alpha_image.proofs.Form.{parts_with-cut, Refuses-form_fault, first_fault-form, image_spelling-parts_of}
-use Rattle.alpha_image.proofs.Form.{cut_behind}
+use Rattle.alpha_image.proofs.ReadSpelling.{parts_with-cut, Refuses-form_fault, first_fault-form}
+use Rattle.alpha_image.proofs.ReadSpelling.{image_spelling-parts_of}
+use Rattle.alpha_image.proofs.ReadSpelling.{cut_behind}
 use Rattle.alpha_image.proofs.read.read_image.Goals as goal
 
 pub returns-in_err-header-clause-fault : goal.returns-in_err-header-clause-fault
@@ -32,10 +33,10 @@ returns-clause-spelled c =
     ensures.numbers cut.0 cut.1 in
     let whole : bytes ≡ image_spelling (parts_of bytes) =
     image_spelling-parts_of bytes (λ i. omega (arith, c.type_inv.bytes i)) ensures.form in
-    IfOk-weaker c.checked.result
+    IfOk-weaker c.build_from_bytes.result
     (λ (image : Parts). image ≡ parts_with h.version n (words_of c.split_at.result.0.now) c.split_at.result.1.now)
     (λ (image : Parts). bytes ≡ image_spelling image)
-    (λ image e. whole ∙ ap image_spelling (sym (e ∙ parts))) c.checked.ensures.parts
+    (λ image e. whole ∙ ap image_spelling (sym (e ∙ parts))) c.build_from_bytes.ensures.parts
 
 pub returns-clause-fault : goal.returns-clause-fault
 returns-clause-fault c =
@@ -48,5 +49,5 @@ returns-clause-fault c =
     c.front_size.ensures.value ensures.version ensures.numbers refl c.split_at.ensures.front c.split_at.ensures.back in
     let none : form_fault bytes ≡ None = ensures.fault in
     let level = ap (λ (m : Numbers). word_fault (numbered_level m.level) (words_of code)) ensures.numbers in
-    subst (λ (fault : Option ImageFault). Tells c.checked.result fault)
-    (level ∙ first_fault-form bytes code none cut.0) c.checked.ensures.fault
+    subst (λ (fault : Option ImageFault). Tells c.build_from_bytes.result fault)
+    (level ∙ first_fault-form bytes code none cut.0) c.build_from_bytes.ensures.fault

@@ -8,7 +8,7 @@ use Rattle.alpha_image.specs.Parts.{Parts, IsByte, image_spelling}
 use Rattle.alpha_image.specs.PartsOf.{parts_of}
 use Rattle.alpha_image.specs.ImageFault.{form_fault, word_fault}
 use Rattle.alpha_image.specs.Tells.{Tells}
-use Rattle.alpha_image.proofs.Form.{Refuses-form_fault, first_fault-words, image_spelling-parts_of, IsBytes-All}
+use Rattle.alpha_image.proofs.ReadSpelling.{Refuses-form_fault, first_fault-words, image_spelling-parts_of, IsBytes-All}
 use Rattle.alpha_image.proofs.read.take_image.Goals as goal
 
 pub returns-in_err-header-clause-fault : goal.returns-in_err-header-clause-fault

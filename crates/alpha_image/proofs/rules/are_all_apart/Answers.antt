@@ -1,6 +1,6 @@
 use Rattle.std.proofs.Common.{arith, sym, ap, ◌∙◌}
 use Rattle.alpha_image.specs.FieldTests.{are_apart}
-use Rattle.alpha_image.proofs.Apart.{meets_one, meets_none}
+use Rattle.alpha_image.proofs.SegmentsApart.{meets_one, meets_none}
 use Rattle.alpha_image.proofs.rules.are_all_apart.Goals as goal
 
 pub returns-then-not-is_apart : goal.returns-then-not-is_apart

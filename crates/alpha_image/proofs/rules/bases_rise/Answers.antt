@@ -1,7 +1,7 @@
 use Rattle.std.proofs.Common.{arith, map, sym}
 use Rattle.std.proofs.lemmas.List.{length-map}
 use Rattle.alpha_image.specs.declared.segment.Segment.{Segment}
-use Rattle.alpha_image.proofs.Apart.{rise-not_falling, rises_more}
+use Rattle.alpha_image.proofs.SegmentsApart.{rise-not_falling, rises_more}
 use Rattle.alpha_image.proofs.FieldRules.{increasing-rise}
 use Rattle.alpha_image.proofs.rules.bases_rise.Goals as goal
 

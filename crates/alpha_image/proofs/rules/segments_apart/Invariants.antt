@@ -1,6 +1,6 @@
 use Rattle.std.proofs.Common.{◌≡◌, ◌≤◌, ◌^◌, map, drop}
 use Rattle.alpha_image.specs.FieldTests.{all_apart, segment_region}
-use Rattle.alpha_image.proofs.Apart.{are_above}
+use Rattle.alpha_image.proofs.SegmentsApart.{are_above}
 use Rattle.alpha_image.proofs.rules.segments_apart.Given as goal
 
 abbrev pub invariant-loop-s : goal.invariant-loop-s

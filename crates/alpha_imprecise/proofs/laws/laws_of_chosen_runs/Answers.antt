@@ -1,6 +1,6 @@
 use Rattle.std.proofs.Common.{None, refl}
 use Rattle.alpha_imprecise.specs.ChosenRun.{begun}
-use Rattle.alpha_imprecise.proofs.Drawn.{chosen_run-draws}
+use Rattle.alpha_imprecise.proofs.DrawnRuns.{chosen_run-draws}
 use Rattle.alpha_imprecise.proofs.StepBounds.{IsWithin-nothing_pending, IsWithin-pending, advance_chosen_run-Nearer}
 use Rattle.alpha_imprecise.proofs.PendingTraps.{made_is}
 use Rattle.alpha_imprecise.proofs.laws.laws_of_chosen_runs.Goals as goal

@@ -1,7 +1,7 @@
 use Rattle.std.proofs.Common.{refl}
 use Rattle.alpha_imprecise.specs.Run.{imprecise_start}
 use Rattle.alpha_imprecise.proofs.WordDraws.{words_most}
-use Rattle.alpha_imprecise.proofs.Drawn.{chosen_run-over, RunsOver-chosen_run}
+use Rattle.alpha_imprecise.proofs.DrawnRuns.{chosen_run-over, RunsOver-chosen_run}
 use Rattle.alpha_imprecise.proofs.laws.laws_of_free_runs.Goals as goal
 
 pub returns-clause-told : goal.returns-clause-told

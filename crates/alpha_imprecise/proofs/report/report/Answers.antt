@@ -15,7 +15,7 @@ pub land-requires : goal.land-requires
 land-requires c = λ going.
     let m = c.args.machine.now in
     let mask = c.args.trap.now.mask in
-    let h = going_on c.in-Ok.pc c.handled.new.machine.regs in
+    let h = going_on c.in-Ok.pc c.run_handler.new.machine.regs in
     goes_far m.image m.completion m.pc mask m.regs h
     (reported-Scanned m.image m.completion m.pc mask m.regs h c.in-Ok.ensures.ok)
     (ap (λ (x : Machine). stops x.completion) (sym c.in-Ok.ensures.frame) ∙ going)
@@ -26,12 +26,12 @@ returns-in-Ok-clause-step c =
     subst (λ (p : Option Pending).
     StepsAs c.land.result (imprecise_state m p) (imprecise_state c.land.new.machine None) (reporting 0).choice)
     (sym c.requires.trap)
-    (landed-handled m c.handled.new.machine c.land.new.machine c.args.trap.now c.in-Ok.pc c.land.result
+    (landed-handled m c.run_handler.new.machine c.land.new.machine c.args.trap.now c.in-Ok.pc c.land.result
     c.in-Ok.ensures.ok c.in-Ok.ensures.frame c.land.ensures.answer c.land.ensures.state)
 
 pub returns-in-Ok-clause-user : goal.returns-in-Ok-clause-user
 returns-in-Ok-clause-user c =
-    let mid = c.handled.new.machine in
+    let mid = c.run_handler.new.machine in
     let kernel = ap (λ (x : Machine). x.kernel) c.land.ensures.state
     ∙ (landed-kernel (stops mid.completion) mid c.in-Ok.pc ∙ ap (λ (x : Machine). x.kernel) c.in-Ok.ensures.frame) in
     subst (λ (k : KernelState). IsTrue k.user) (sym kernel) refl
@@ -39,7 +39,7 @@ returns-in-Ok-clause-user c =
 pub returns-in-Err-clause-step : goal.returns-in-Err-clause-step
 returns-in-Err-clause-step c =
     let m = c.args.machine.now in
-    let new = c.handled.new.machine in
+    let new = c.run_handler.new.machine in
     let lost = c.in-Err.lost in
     subst (λ (p : Option Pending).
     StepsAs (events.Lost lost.trap_pc lost.mask) (imprecise_state m p) (imprecise_state new p) (reporting 0).choice)

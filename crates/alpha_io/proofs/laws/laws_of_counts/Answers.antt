@@ -1,5 +1,5 @@
-use Rattle.alpha_io.proofs.Counts.{Faulted-next_count, Faulted-later, Faulted-earlier, Faulted-not_NoFault}
-use Rattle.alpha_io.proofs.Counts.{NoFault-from_same, NoFault-first, NoFault-second, NoFault-trans}
+use Rattle.alpha_io.proofs.FaultCounts.{Faulted-next_count, Faulted-later, Faulted-earlier, Faulted-not_NoFault}
+use Rattle.alpha_io.proofs.FaultCounts.{NoFault-from_same, NoFault-first, NoFault-second, NoFault-trans}
 use Rattle.alpha_io.proofs.laws.laws_of_counts.Goals as goal
 
 pub returns : goal.returns

@@ -1,7 +1,7 @@
 use Rattle.std.proofs.Common.{ℕ, refl, length, ◌∙◌, arith, length-take}
 use Rattle.alpha_io.specs.Files.{IsPiece}
 use Rattle.alpha_io.proofs.ShelfLaws.{KeepsFiles-trans, IfTold-kept}
-use Rattle.alpha_io.proofs.Pieces.{IsReadTo-more, some_bytes, unended_file}
+use Rattle.alpha_io.proofs.FilePieces.{IsReadTo-more, some_bytes, unended_file}
 use Rattle.alpha_io.proofs.FilePrefixes.{IsKnownPrefixRead-more}
 use Rattle.alpha_io.proofs.read.read_whole.Goals as goal
 

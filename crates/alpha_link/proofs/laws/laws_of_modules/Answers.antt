@@ -1,6 +1,6 @@
 use Rattle.std.proofs.Common.{ap, sym, ◌∙◌}
 use Rattle.alpha_link.specs.Spelled.{module_at}
-use Rattle.alpha_link.proofs.Results.{gave-injective}
+use Rattle.alpha_link.proofs.ReadingResults.{gave-injective}
 use Rattle.alpha_link.proofs.ModuleBytes.{bytes_of_all, module_takes, module_again}
 use Rattle.alpha_link.proofs.laws.laws_of_modules.Goals as goal
 

@@ -4,7 +4,7 @@ use Rattle.std.specs.Option.{option_map}
 use Rattle.alpha_link.specs.declared.fault.LinkFault.TheVariants as faults
 use Rattle.alpha_link.specs.Names.{found_in}
 use Rattle.alpha_link.specs.Linked.{Located}
-use Rattle.alpha_link.proofs.Lists.{first-drop_none, first-drop_some, first-drop_end}
+use Rattle.alpha_link.proofs.LoopLists.{first-drop_none, first-drop_some, first-drop_end}
 use Rattle.alpha_link.proofs.JoinedModules.{missing_by, missing_in}
 use Rattle.alpha_link.proofs.OwnAddresses.{knows_item}
 use Rattle.alpha_link.proofs.linker.first_undefined.Goals as goal
@@ -40,7 +40,7 @@ returns c =
     (first-drop_end (missing_in find) ls c.loop-located.located-index _ c.loop-located-test.false
     c.loop-located.invariant))
 
-pub missing-requires : goal.missing-requires
-missing-requires c =
+pub first_unresolved-requires : goal.first_unresolved-requires
+first_unresolved-requires c =
     knows_item (found_in c.args.names.now) c.args.places.now c.loop-located.located-index c.located-item.result
     c.requires.own c.loop-located-test.true c.located-item.is

@@ -5,7 +5,7 @@ use Rattle.alpha_link.specs.declared.fault.LinkFault.TheVariants as faults
 use Rattle.alpha_link.specs.Linked.{Located, addresses_of, out_of_range_in, addresses_by}
 use Rattle.alpha_link.specs.Names.{found_in}
 use Rattle.alpha_link.specs.Output.{JoinsOne}
-use Rattle.alpha_link.proofs.Lists.{first-drop_some}
+use Rattle.alpha_link.proofs.LoopLists.{first-drop_some}
 use Rattle.alpha_link.proofs.JoinedModules.{Joined-next, out_of_range_as}
 use Rattle.alpha_link.proofs.OwnAddresses.{knows_item}
 use Rattle.alpha_link.proofs.linker.join_modules.Goals as goal

@@ -1,7 +1,7 @@
 use Rattle.std.proofs.Common.{sym, ◌∙◌, arith}
 use Rattle.alpha_link.specs.Symbols.{Named, named}
 use Rattle.alpha_link.specs.Linked.{is_defined}
-use Rattle.alpha_link.proofs.Lists.{all_stops, all_goes, all_ends}
+use Rattle.alpha_link.proofs.LoopLists.{all_stops, all_goes, all_ends}
 use Rattle.alpha_link.proofs.names.defines_all.Goals as goal
 
 pub returns-then-not-is_defined : goal.returns-then-not-is_defined

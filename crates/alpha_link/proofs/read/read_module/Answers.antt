@@ -8,10 +8,10 @@ use Rattle.alpha_link.specs.Symbols.{symbol_at}
 use Rattle.alpha_link.specs.Relocations.{relocation_at, body}
 use Rattle.alpha_link.specs.Parts.{ModuleParts}
 use Rattle.alpha_link.specs.Spelled.{words_at, parts, module_at}
-use Rattle.alpha_link.proofs.Results.{passed_on}
-use Rattle.alpha_link.proofs.Stages.{module_at-header_at, coded_at-words_at, filled_at-taken, named_at-items_at}
-use Rattle.alpha_link.proofs.Stages.{relocated_at-items_at, ended_none, ended_some, to_words, to_data}
-use Rattle.alpha_link.proofs.Stages.{to_symbols, to_relocations, to_end}
+use Rattle.alpha_link.proofs.ReadingResults.{passed_on}
+use Rattle.alpha_link.proofs.ReadingStages.{module_at-header_at, coded_at-words_at, filled_at-taken, named_at-items_at}
+use Rattle.alpha_link.proofs.ReadingStages.{relocated_at-items_at, ended_none, ended_some, to_words, to_data}
+use Rattle.alpha_link.proofs.ReadingStages.{to_symbols, to_relocations, to_end}
 use Rattle.alpha_link.proofs.HeaderBytes.{header_takes}
 use Rattle.alpha_link.proofs.ModuleBytes.{module_takes}
 use Rattle.alpha_link.proofs.read.read_module.Goals as goal

@@ -5,8 +5,8 @@ use Rattle.alpha_table.specs.Encoded.{encoded}
 use Rattle.alpha_link.specs.declared.relocation.Relocation.{Relocation}
 use Rattle.alpha_link.specs.Relocations.{relocation_at, body}
 use Rattle.alpha_link.specs.Reading.{items_at}
-use Rattle.alpha_link.proofs.Results.{passed_on}
-use Rattle.alpha_link.proofs.Formats.{format-continues, items_at-stops, items_at-ends}
+use Rattle.alpha_link.proofs.ReadingResults.{passed_on}
+use Rattle.alpha_link.proofs.ItemLists.{format-continues, items_at-stops, items_at-ends}
 use Rattle.alpha_link.proofs.relocations.read_relocations.Goals as goal
 
 pub loop-number-init : goal.loop-number-init

@@ -7,9 +7,9 @@ use Rattle.alpha_asm.specs.Unlinked.{IsUnlinkedOf}
 use Rattle.alpha_link.specs.declared.keyed.KeyedName.{KeyedName}
 use Rattle.alpha_link.specs.Symbols.{named}
 use Rattle.alpha_link.specs.Numbered.{texts, ranked}
-use Rattle.alpha_link.proofs.MadeModules.{labels_near, module_good, module_is}
+use Rattle.alpha_link.proofs.SourceModules.{labels_near, module_good, module_is}
 use Rattle.alpha_link.proofs.Ranks.{ranks_of, AreRanks-within, all_ranked}
-use Rattle.alpha_link.proofs.Repeats.{distinct_names}
+use Rattle.alpha_link.proofs.DistinctNames.{distinct_names}
 use Rattle.alpha_link.proofs.SourceNames.{names_among, names_are, sorted_rise, sorted_among}
 use Rattle.alpha_link.proofs.source_module.module_of.Goals as goal
 

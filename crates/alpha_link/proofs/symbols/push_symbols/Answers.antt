@@ -1,7 +1,7 @@
 use Rattle.std.proofs.Common.{◌++◌, ◌+◌, ℕ, List, drop, ap, sym, ◌∙◌, append_assoc}
 use Rattle.std.specs.List.{flat_map}
 use Rattle.alpha_link.specs.Symbols.{Named, named, symbol_bytes}
-use Rattle.alpha_link.proofs.Lists.{next_get}
+use Rattle.alpha_link.proofs.LoopLists.{next_get}
 use Rattle.alpha_link.proofs.symbols.push_symbols.Goals as goal
 
 pub loop-number-preserved : goal.loop-number-preserved

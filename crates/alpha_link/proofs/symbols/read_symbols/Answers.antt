@@ -4,8 +4,8 @@ use Rattle.std.proofs.lemmas.Result.{err_from_is_err_and}
 use Rattle.alpha_link.specs.Symbols.{Named, named, symbol_at}
 use Rattle.alpha_link.specs.Listed.{symbol_from, read_in}
 use Rattle.alpha_link.specs.Reading.{items_at}
-use Rattle.alpha_link.proofs.Results.{passed_on}
-use Rattle.alpha_link.proofs.Formats.{format-continues, items_at-stops}
+use Rattle.alpha_link.proofs.ReadingResults.{passed_on}
+use Rattle.alpha_link.proofs.ItemLists.{format-continues, items_at-stops}
 use Rattle.alpha_link.proofs.SymbolBytes.{stands_there, place_next}
 use Rattle.alpha_link.proofs.symbols.read_symbols.Goals as goal
 

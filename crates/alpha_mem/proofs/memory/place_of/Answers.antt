@@ -1,7 +1,7 @@
 use Rattle.std.proofs.Common.{◌≡◌, ◌-◌, ◌<◌, length, get_or, refl, sym, ap, ◌∙◌, ⊎_elim, arith}
 use Rattle.std.proofs.lemmas.Bool.{cases_eq}
 use Rattle.std.proofs.lemmas.List.{get_or_read_under}
-use Rattle.alpha_mem.proofs.Places.{place-spans}
+use Rattle.alpha_mem.proofs.BlockPlaces.{place-spans}
 use Rattle.alpha_mem.proofs.Regions.{region_found, region_missing}
 use Rattle.alpha_mem.proofs.memory.place_of.Goals as goal
 

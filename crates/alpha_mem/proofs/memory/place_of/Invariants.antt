@@ -1,6 +1,6 @@
 use Rattle.std.proofs.Common.{◌≡◌, ◌<◌, ◌≤◌, ℕ, false, length, get_or}
 use Rattle.alpha_mem.specs.Block.{Block}
-use Rattle.alpha_mem.proofs.Places.{place-spans}
+use Rattle.alpha_mem.proofs.BlockPlaces.{place-spans}
 use Rattle.alpha_mem.proofs.memory.place_of.Given as goal
 
 -- no region from here on holds the range

@@ -1,5 +1,5 @@
 use Rattle.std.proofs.Common.{sym, ap, ◌∙◌, arith}
-use Rattle.alpha_mem.proofs.Places.{place-spans}
+use Rattle.alpha_mem.proofs.BlockPlaces.{place-spans}
 use Rattle.alpha_mem.proofs.Regions.{region_found}
 use Rattle.alpha_mem.proofs.region_hint.place_by_hint.Goals as goal
 

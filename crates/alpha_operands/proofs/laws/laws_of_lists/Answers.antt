@@ -1,6 +1,6 @@
 use Rattle.alpha_operands.specs.Shapes.{patterns}
-use Rattle.alpha_operands.proofs.Lists.{values-read, values-none, one-list}
-use Rattle.alpha_operands.proofs.Sizes.{next-sized}
+use Rattle.alpha_operands.proofs.ListReading.{values-read, values-none, one-list}
+use Rattle.alpha_operands.proofs.ListValueSizes.{next-sized}
 use Rattle.alpha_operands.proofs.Quotes.{operand_text-read}
 use Rattle.alpha_operands.proofs.laws.laws_of_lists.Goals as goal
 

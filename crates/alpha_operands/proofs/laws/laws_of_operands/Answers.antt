@@ -5,9 +5,9 @@ use Rattle.alpha_operands.specs.Shapes.{patterns}
 use Rattle.alpha_operands.specs.Operands.{nothing}
 use Rattle.alpha_operands.specs.Walk.{operands}
 use Rattle.alpha_operands.proofs.Grammar.{follow-spells, spells-follow}
-use Rattle.alpha_operands.proofs.Apart.{shapes-distinct}
-use Rattle.alpha_token.proofs.Order.{tokens-fall}
-use Rattle.alpha_operands.proofs.Faults.{follow-has, follow-first, operands-clean}
+use Rattle.alpha_operands.proofs.PatternsApart.{shapes-distinct}
+use Rattle.alpha_token.proofs.TokenOrder.{tokens-fall}
+use Rattle.alpha_operands.proofs.OperandFaults.{follow-has, follow-first, operands-clean}
 use Rattle.alpha_operands.proofs.laws.laws_of_operands.Goals as goal
 
 pub returns-clause-grammar : goal.returns-clause-grammar

@@ -10,4 +10,4 @@ returns-in-Some c =
 
 pub returns-in-None : goal.returns-in-None
 unfolding registers
-returns-in-None c = c.named.ensures
+returns-in-None c = c.find_number.ensures

@@ -1,6 +1,6 @@
 use Rattle.alpha_token.specs.Numeral.{number_value}
 use Rattle.std.proofs.Common.{sym, ◌∙◌}
-use Rattle.alpha_operands.proofs.Bounds.{number_of-large}
+use Rattle.alpha_operands.proofs.NumberBounds.{number_of-large}
 use Rattle.alpha_operands.proofs.operands.number_of.Goals as goal
 
 pub returns-in_err-number : goal.returns-in_err-number

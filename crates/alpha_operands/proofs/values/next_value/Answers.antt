@@ -1,7 +1,7 @@
 use Rattle.std.proofs.Common.{◌≡◌, length, sym, ◌∙◌, arith}
 use Rattle.std.proofs.lemmas.Bool.Decides.{nat_tests}
-use Rattle.alpha_operands.proofs.Firsts.{none-in-empty}
-use Rattle.alpha_operands.proofs.Sizes.{result-sized}
+use Rattle.alpha_operands.proofs.FirstValues.{none-in-empty}
+use Rattle.alpha_operands.proofs.ListValueSizes.{result-sized}
 use Rattle.alpha_operands.proofs.values.next_value.Goals as goal
 
 pub returns-clause-sized : goal.returns-clause-sized

@@ -2,7 +2,7 @@ use Rattle.std.proofs.Common.{◌≡◌, ◌∙◌, length, refl, ap, inl, inr, 
 use Rattle.std.proofs.lemmas.Bool.Decides.{nat_tests}
 use Rattle.alpha_token.specs.Tokens.{tokens}
 use Rattle.alpha_token.proofs.TokenSuffixes.{tokens-empty}
-use Rattle.alpha_operands.proofs.Firsts.{comma-tokens}
+use Rattle.alpha_operands.proofs.FirstValues.{comma-tokens}
 use Rattle.alpha_operands.proofs.values.past_value.Goals as goal
 
 pub returns-then-is_empty : goal.returns-then-is_empty

@@ -1,5 +1,5 @@
 use Rattle.std.proofs.Common.{sym}
-use Rattle.alpha_operands.proofs.Fronts.{longer_of}
+use Rattle.alpha_operands.proofs.PatternPrefixes.{longer_of}
 use Rattle.alpha_operands.proofs.Reached.{one_at}
 use Rattle.alpha_operands.proofs.walk.piece_behind.Goals as goal
 

@@ -2,7 +2,7 @@ use Rattle.std.proofs.Common.{rules, ◌≡◌}
 use Rattle.alpha_operands.specs.declared.piece.Piece.{Piece}
 use Rattle.alpha_operands.specs.contracts.piece.PiecePartialEq.TheImpl.{eq-value}
 use Rattle.alpha_operands.specs.Pieces.{same_piece}
-use Rattle.alpha_operands.proofs.Fronts.{pointwise-stripped}
+use Rattle.alpha_operands.proofs.PatternPrefixes.{pointwise-stripped}
 use Rattle.alpha_operands.proofs.walk.rest_of.Goals as goal
 
 same : (a b : Piece) → eq-value.it a b ≡ same_piece a b

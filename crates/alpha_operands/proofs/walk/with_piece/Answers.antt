@@ -1,5 +1,5 @@
 use Rattle.std.proofs.Common.{take, refl, ◌∙◌, ap}
-use Rattle.alpha_operands.proofs.Fronts.{front_after-take}
+use Rattle.alpha_operands.proofs.PatternPrefixes.{front_after-take}
 use Rattle.alpha_operands.proofs.walk.with_piece.Goals as goal
 use Rattle.alpha_operands.proofs.walk.with_piece.Goals.{in-Again, in_default}
 

@@ -5,11 +5,12 @@ use Rattle.alpha_quick.proofs.forms.branch_with_link.Goals as goal
 
 pub returns-in_ok-insn-in-46 : goal.returns-in_ok-insn-in-46
 returns-in_ok-insn-in-46 c = λ line first.
-    whole_leads (Says (mnemonics.Branch c.args.op) line) c.whole.result c.in_ok-insn-in-46.insn c.whole.ensures.insn
-    c.whole.ensures.whole (c.in_ok-insn-in-46.ensures line first)
+    whole_leads (Says (mnemonics.Branch c.args.op) line) c.without_label.result c.in_ok-insn-in-46.insn
+    c.without_label.ensures.insn
+    c.without_label.ensures.whole (c.in_ok-insn-in-46.ensures line first)
 
 pub returns-in_default : goal.returns-in_default
 returns-in_default c = λ line first.
-    reaching_leads (Says (mnemonics.Branch c.args.op) line) c.to.result c.branch-op.result c.args.words.now
-    c.to.ensures.insn c.to.ensures.reaches c.to.ensures.left
+    reaching_leads (Says (mnemonics.Branch c.args.op) line) c.toward_label.result c.branch-op.result c.args.words.now
+    c.toward_label.ensures.insn c.toward_label.ensures.reaches c.toward_label.ensures.left
     (rw c.branch-op.ensures (says_link c.args.op c.args.ra line c.args.words.now first))

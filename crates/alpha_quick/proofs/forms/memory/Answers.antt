@@ -5,5 +5,5 @@ use Rattle.alpha_quick.proofs.forms.memory.Goals as goal
 
 pub returns : goal.returns
 returns c =
-    Says-first_register (mnemonics.Mem c.args.op) c.args.words.now _ _ c.accessing.result
-    (search rules) c.accessing.ensures
+    Says-first_register (mnemonics.Mem c.args.op) c.args.words.now _ _ c.access_prefix.result
+    (search rules) c.access_prefix.ensures

@@ -5,7 +5,7 @@ use Rattle.alpha_token.specs.Tokens.{tokens}
 use Rattle.alpha_operands.specs.declared.number.Sign.TheVariants as signs
 use Rattle.alpha_quick.specs.Words.{HasMark, HasWords, HasDistance}
 use Rattle.alpha_text.proofs.CanonicalTokens.{token-dot, token-plus, token-minus}
-use Rattle.alpha_quick.proofs.LexemeMeanings.{if-some}
+use Rattle.alpha_quick.proofs.LexemeMeanings.{IfSome-implied}
 use Rattle.alpha_quick.proofs.groups.distance.Goals as goal
 
 -- `.` before a sign
@@ -15,7 +15,8 @@ dot_mark line after digits b e f apart = (46 ∷ [], rw (e, f) (token-dot b digi
 
 pub returns-in-Some : goal.returns-in-Some
 returns-in-Some c =
-    if-some (HasWords signs.Plus c.in-Some.digits.now) (HasDistance c.args.s.now) c.displacement.result (λ words h. (
+    IfSome-implied (HasWords signs.Plus c.in-Some.digits.now) (HasDistance c.args.s.now) c.displacement.result
+    (λ words h. (
       signs.Plus,
       c.in_ok-behind.behind.now,
       c.in-Some.digits.now,
@@ -27,7 +28,7 @@ returns-in-Some c =
 
 pub returns : goal.returns
 returns c =
-    if-some (HasWords signs.Minus c.in_ok-digits.digits.now) (HasDistance c.args.s.now) c.displacement-2.result
+    IfSome-implied (HasWords signs.Minus c.in_ok-digits.digits.now) (HasDistance c.args.s.now) c.displacement-2.result
     (λ words h. (
       signs.Minus,
       c.in_ok-behind.behind.now,

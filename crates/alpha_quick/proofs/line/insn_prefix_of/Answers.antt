@@ -2,12 +2,12 @@ use Rattle.alpha_text.specs.declared.head.Head.TheVariants as heads
 use Rattle.alpha_text.specs.SuffixWords.{Says}
 use Rattle.alpha_quick.specs.Parts.{SaysNamed}
 use Rattle.alpha_quick.specs.InsnPrefix.{PrefixSays}
-use Rattle.alpha_quick.proofs.LexemeMeanings.{if-some, whole_leads, leads_as, SaysBy-insn, SaysBy-pseudo_op}
+use Rattle.alpha_quick.proofs.LexemeMeanings.{IfSome-implied, whole_leads, leads_as, SaysBy-insn, SaysBy-pseudo_op}
 use Rattle.alpha_quick.proofs.line.insn_prefix_of.Goals as goal
 
 pub returns-in-Some : goal.returns-in-Some
 returns-in-Some c =
-    if-some (PrefixSays (Says c.in-Some.row c.in_ok-words.words.now))
+    IfSome-implied (PrefixSays (Says c.in-Some.row c.in_ok-words.words.now))
     (PrefixSays (SaysNamed c.args.lexeme.now.name.now c.args.lexeme.now.rest.now)) c.of_row.result
     (λ l h. leads_as (Says c.in-Some.row c.in_ok-words.words.now)
     (SaysNamed c.args.lexeme.now.name.now c.args.lexeme.now.rest.now) l
@@ -20,8 +20,8 @@ returns-in-Some c =
 
 pub returns-in_ok-insn-in-None : goal.returns-in_ok-insn-in-None
 returns-in_ok-insn-in-None c =
-    whole_leads (SaysNamed c.args.lexeme.now.name.now c.args.lexeme.now.rest.now) c.whole.result
-    c.in_ok-insn-in-None.insn c.whole.ensures.insn c.whole.ensures.whole (
+    whole_leads (SaysNamed c.args.lexeme.now.name.now c.args.lexeme.now.rest.now) c.without_label.result
+    c.in_ok-insn-in-None.insn c.without_label.ensures.insn c.without_label.ensures.whole (
       heads.PseudoOp c.in_ok-pseudo_op-in-None.pseudo_op,
       c.in_ok-pseudo_op-in-None.ensures,
       c.in_ok-words.ensures.0,

@@ -1,5 +1,5 @@
 use Rattle.std.proofs.Common.{ap, ◌∙◌}
-use Rattle.alpha_image.proofs.Form.{IsBytes-All}
+use Rattle.alpha_image.proofs.ReadSpelling.{IsBytes-All}
 use Rattle.alpha_replay.specs.JournalFault.{first_fault}
 use Rattle.alpha_replay.specs.Reading.{parts_of}
 use Rattle.alpha_replay.proofs.JournalSpelling.{journal-no_fault, journal_first_fault-spelling, one_journal}

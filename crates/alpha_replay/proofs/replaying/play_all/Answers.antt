@@ -6,7 +6,8 @@ use Rattle.alpha_seq.specs.Run.{output}
 use Rattle.alpha_imprecise.specs.Run.{seen}
 use Rattle.alpha_replay.specs.ReplayEffect.{place}
 use Rattle.alpha_replay.specs.Replay.{ends_seen}
-use Rattle.alpha_replay.proofs.ReplayAnswers.{CursorAt-by, stops_by, item_fault, output_fault, end_fault, input_fault}
+use Rattle.alpha_replay.proofs.ReplayAnswers.{CursorAt-by, listed-StopsAt, item_fault, output_fault, end_fault}
+use Rattle.alpha_replay.proofs.ReplayAnswers.{input_fault}
 use Rattle.alpha_replay.proofs.ReplayAnswers.{no_fault, left_some, left_none}
 use Rattle.alpha_replay.proofs.replaying.play_all.Goals as goal
 
@@ -14,7 +15,7 @@ pub returns-in-Err : goal.returns-in-Err
 returns-in-Err c = λ image how begins.
     let p = parts how c.args.ending.now c.args.input.now.left c.args.output.now c.args.items.now in
     item_fault image p c.in-Err.n
-    (stops_by (record { image = image; completion = how }) c.args.wild.now c.args.input.now.left c.args.items.now
+    (listed-StopsAt (record { image = image; completion = how }) c.args.wild.now c.args.input.now.left c.args.items.now
     c.in-Err.n begins c.in-Err.ensures.refused)
 
 pub returns-in-Some : goal.returns-in-Some

@@ -3,11 +3,11 @@ use Rattle.alpha_replay.proofs.ReplayAnswers.{of_parts, answer-Replays}
 use Rattle.alpha_replay.specs.Replay.{replayed}
 use Rattle.alpha_replay.proofs.replaying.replay.Goals as goal
 
-pub returns-in-Ok-fresh : goal.returns-in-Ok-fresh
-returns-in-Ok-fresh c =
+pub returns-in-Ok-machine_at_start : goal.returns-in-Ok-machine_at_start
+returns-in-Ok-machine_at_start c =
     answer-Replays c.play_all.result (replayed c.args.image c.args.journal.now)
     (c.play_all.ensures c.args.image c.completion.result
-    (record { fresh = c.in-Ok-fresh.ensures.fresh; program = c.in-Ok-fresh.ensures.program })
+    (record { fresh = c.in-Ok-machine_at_start.ensures.fresh; program = c.in-Ok-machine_at_start.ensures.program })
     ∙ of_parts c.args.image c.args.journal.now c.completion.result c.ending.result c.new-input.result.left
     c.output.result.now c.items.result.now
     c.completion.ensures.value c.ending.ensures.value

@@ -1,4 +1,4 @@
-use Rattle.alpha_restart.proofs.Columns.{step_keeps, step_alike}
+use Rattle.alpha_restart.proofs.ColumnEffects.{step_keeps, step_alike}
 use Rattle.alpha_restart.proofs.laws.laws_of_columns.Goals as goal
 
 pub returns : goal.returns

@@ -1,4 +1,4 @@
-use Rattle.alpha_restart.proofs.Needed.{condition-needed, stops_apart}
+use Rattle.alpha_restart.proofs.NeededConditions.{condition-needed, stops_apart}
 use Rattle.alpha_restart.proofs.laws.limits_of_restarts.Goals as goal
 
 pub returns : goal.returns

@@ -1,5 +1,5 @@
-use Rattle.alpha_round.proofs.Same.{source-listing, one-listing}
-use Rattle.alpha_round.proofs.Sizes.{length-listing}
+use Rattle.alpha_round.proofs.SameImage.{source-listing, one-listing}
+use Rattle.alpha_round.proofs.ListingSizes.{length-listing}
 use Rattle.alpha_round.proofs.laws.laws_of_listings.Goals as goal
 
 pub returns : goal.returns

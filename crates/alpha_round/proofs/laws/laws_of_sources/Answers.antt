@@ -1,5 +1,5 @@
-use Rattle.alpha_round.proofs.Same.{one-image}
-use Rattle.alpha_round.proofs.Sources.{some-image}
+use Rattle.alpha_round.proofs.SameImage.{one-image}
+use Rattle.alpha_round.proofs.UnrefusedSources.{some-image}
 use Rattle.alpha_round.proofs.laws.laws_of_sources.Goals as goal
 
 pub returns : goal.returns

@@ -1,4 +1,4 @@
-use Rattle.alpha_run.proofs.ByWords.{by_words, by_words_part, draws_few, cut_draws_few}
+use Rattle.alpha_run.proofs.RunsByWords.{by_words, by_words_part, draws_few, cut_draws_few}
 use Rattle.alpha_run.proofs.laws.laws_of_told_words.Goals as goal
 
 pub returns-clause-whole : goal.returns-clause-whole

@@ -4,7 +4,7 @@ use Rattle.alpha_io.specs.SinkChange.{sink_change}
 use Rattle.alpha_seq.specs.Devices.{drawn}
 use Rattle.alpha_seq.specs.StepLabel.{is_over}
 use Rattle.alpha_imprecise.specs.Oracle.{oracle_of}
-use Rattle.alpha_run.proofs.Rows.{if_err}
+use Rattle.alpha_run.proofs.StepRows.{if_err}
 use Rattle.alpha_run.proofs.ObservedSteps.{StepEffect-IsObservedStep, notes-Idles, FaultedStepEffect-FaultedStep}
 use Rattle.alpha_run.proofs.observed.observed_step.Goals as goal
 

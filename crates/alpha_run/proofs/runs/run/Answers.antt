@@ -3,9 +3,9 @@ use Rattle.alpha_io.specs.Supply.{supply}
 use Rattle.alpha_seq.proofs.RunSteps.{step_times}
 use Rattle.alpha_imprecise.specs.Oracle.{oracle_of}
 use Rattle.alpha_run.specs.RunEffect.{watching}
-use Rattle.alpha_run.proofs.Rows.{ContinuesRun-run_fast, ContinuesRun-step, ContinuesRun-append, EndsRun-last}
-use Rattle.alpha_run.proofs.Rows.{ContinuesRun-IsPrefixRun}
-use Rattle.alpha_run.proofs.Rows.{left_after, if_err}
+use Rattle.alpha_run.proofs.StepRows.{ContinuesRun-run_fast, ContinuesRun-step, ContinuesRun-append, EndsRun-last}
+use Rattle.alpha_run.proofs.StepRows.{ContinuesRun-IsPrefixRun}
+use Rattle.alpha_run.proofs.StepRows.{left_after, if_err}
 use Rattle.alpha_run.proofs.runs.run.Goals as goal
 
 pub steps-init : goal.steps-init

@@ -24,14 +24,14 @@ returns-in-None c = λ mem.
     sym (ap (λ (r : BranchRow). r.condition) c.row.ensures) ∙ c.in-None.is in
     let left : next ≡ (image.code_base + 4 * ((place + 1) % 2 ^ 64)) % 2 ^ 64 =
     c.address_of.ensures ∙ ap (λ (p : ℕ). (image.code_base + 4 * p) % 2 ^ 64) c.advance.ensures in
-    let to : c.displaced.result ≡ register_of (pos ((place + 1) % 2 ^ 64) +ℤ a.disp) = c.displaced.ensures
+    let to : c.displace.result ≡ register_of (pos ((place + 1) % 2 ^ 64) +ℤ a.disp) = c.displace.ensures
     ∙ (ap (λ (d : ℤ). register_of (pos c.advance.new.place +ℤ d)) (to_z-of_z w32 a.disp c.ranges.disp)
     ∙ ap (λ (p : ℕ). register_of (pos p +ℤ a.disp)) c.advance.ensures) in
     subst (λ (o : Option Cond).
-    ExecutesFast image (branch o a.ra a.disp) regs mem place c.set.new.self mem c.displaced.result)
+    ExecutesFast image (branch o a.ra a.disp) regs mem place c.set.new.self mem c.displace.result)
     (sym plain)
     (ExecutesFast-to image (branch None a.ra a.disp) regs mem place
-    (put regs a.ra next) c.set.new.self mem mem _ c.displaced.result c.set.ensures.value refl to
+    (put regs a.ra next) c.set.new.self mem mem _ c.displace.result c.set.ensures.value refl to
     (ExecutesFast-turn a.ra a.disp regs mem place next image c.ranges.disp left))
 
 pub returns-then-taken : goal.returns-then-taken
@@ -45,14 +45,14 @@ returns-then-taken c = λ mem.
     sym (ap (λ (r : BranchRow). r.condition) c.row.ensures) ∙ c.in-Some.is in
     let takes : is_taken test (reg regs a.ra) ≡ true =
     ap (is_taken test) (sym c.get.ensures.value) ∙ (sym c.taken.ensures ∙ c.if-taken.true) in
-    let to : c.displaced-then-taken.result ≡ register_of (pos ((place + 1) % 2 ^ 64) +ℤ a.disp) =
-    c.displaced-then-taken.ensures
+    let to : c.displace-then-taken.result ≡ register_of (pos ((place + 1) % 2 ^ 64) +ℤ a.disp) =
+    c.displace-then-taken.ensures
     ∙ (ap (λ (d : ℤ). register_of (pos c.advance-in-Some.new.place +ℤ d)) (to_z-of_z w32 a.disp c.ranges.disp)
     ∙ ap (λ (p : ℕ). register_of (pos p +ℤ a.disp)) c.advance-in-Some.ensures) in
     subst (λ (o : Option Cond).
-    ExecutesFast image (branch o a.ra a.disp) regs mem place regs mem c.displaced-then-taken.result)
+    ExecutesFast image (branch o a.ra a.disp) regs mem place regs mem c.displace-then-taken.result)
     (sym tests)
-    (ExecutesFast-branch test a.ra a.disp regs mem place c.displaced-then-taken.result true image c.ranges.disp takes
+    (ExecutesFast-branch test a.ra a.disp regs mem place c.displace-then-taken.result true image c.ranges.disp takes
     to)
 
 pub returns-else-taken : goal.returns-else-taken

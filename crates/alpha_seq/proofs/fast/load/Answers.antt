@@ -27,5 +27,5 @@ returns-in-Ok-clause-went c = λ h image.
     c.in-Ok.ensures.ok ∙ ap (λ (k : ℕ). little (bytes_at mem addr k)) c.size.ensures in
     ExecutesFast-to image (cond (eqb a.ra 31) idle (load a.extension at a.ra)) regs mem a.place.now
     (put regs a.ra (filled a.extension n)) c.set.new.regs mem mem _ c.set.new.place
-    (c.set.ensures.regs ∙ ap (put regs a.ra) c.extended.ensures) refl c.set.ensures.place
+    (c.set.ensures.regs ∙ ap (put regs a.ra) c.extend.ensures) refl c.set.ensures.place
     (ExecutesFast-load a.extension at a.ra regs mem a.place.now addr n image there calm is)

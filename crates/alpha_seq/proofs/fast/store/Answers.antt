@@ -16,7 +16,7 @@ returns-in-Ok-clause-went c = λ h image.
     let at = a.at.now in
     let regs = a.regs.now in
     let mem = a.memory.now in
-    let new = c.store_near.new.self in
+    let new = c.store_with_hint.new.self in
     let addr = c.access_address-addr.result in
     let there : addr ≡ access_address at (reg regs at.base) =
     c.access_address-addr.ensures ∙ ap (access_address at) c.get.ensures.value in

@@ -1,5 +1,5 @@
-use Rattle.alpha_seq.proofs.Sequence.{after-fed, fed-after}
-use Rattle.alpha_seq.proofs.Unread.{unread_after}
+use Rattle.alpha_seq.proofs.RunSequence.{after-fed, fed-after}
+use Rattle.alpha_seq.proofs.RunsWithoutInput.{unread_after}
 use Rattle.alpha_seq.proofs.laws.laws_of_inputs.Goals as goal
 
 pub returns-clause-told : goal.returns-clause-told

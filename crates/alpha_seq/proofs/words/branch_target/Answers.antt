@@ -1,7 +1,7 @@
 use Rattle.std.proofs.Common.{◌≡◌, ◌+◌, ◌%◌, ◌^◌, ℤ, pos, ◌+ℤ◌, ◌*ℤ◌, FitsSigned, of_z, w32, w64, ap, ◌∙◌, arith, rules}
 use Rattle.std.proofs.lemmas.Int.{ints, to_z-of_z}
 use Rattle.alpha_values.specs.Numbers.{register_of}
-use Rattle.alpha_values.proofs.Words.{sum_word}
+use Rattle.alpha_values.proofs.MachineWords.{sum_word}
 use Rattle.alpha_seq.proofs.words.branch_target.Goals as goal
 
 pub returns : goal.returns

@@ -28,4 +28,4 @@ returns c = λ code s u h.
       | in-Load w ↦ ⊎_elim (λ (q : word.kind ≡ kinds.Load). cc)
           (⊎_elim (λ (q : word.kind ≡ kinds.Store). cc) (λ (q : word.kind ≡ kinds.Locked). cc)) w.in-Load.is
     ] in
-    c.lesser.ensures code 8 refl before (c.long.ensures code s u h.within other)
+    c.lesser_broken.ensures code 8 refl before (c.long_shadow.ensures code s u h.within other)

@@ -1,8 +1,8 @@
 use Rattle.std.proofs.Common.{inl, inr, refl}
 use Rattle.alpha_shadow.specs.declared.broken.Condition.TheVariants.{WildBase, LoadThenStore, Locked, Turn}
-use Rattle.alpha_shadow.proofs.Tables.{no_access}
-use Rattle.alpha_shadow.proofs.Places.{WildBase-no_access, no_store, locked_missing, turn_missing}
-use Rattle.alpha_shadow.proofs.Steps.{IsLeastUpTo-skip, open_next}
+use Rattle.alpha_shadow.proofs.WordColumns.{no_access}
+use Rattle.alpha_shadow.proofs.BreakingTriggers.{WildBase-no_access, no_store, locked_missing, turn_missing}
+use Rattle.alpha_shadow.proofs.LeastBrokenSteps.{IsLeastUpTo-skip, open_next}
 use Rattle.alpha_shadow.proofs.place.broken_by_register.Goals as goal
 
 pub returns : goal.returns

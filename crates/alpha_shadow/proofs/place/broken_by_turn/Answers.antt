@@ -1,8 +1,8 @@
 use Rattle.std.proofs.Common.{◌∙◌, ap, Some, inl, inr, refl}
 use Rattle.alpha_shadow.specs.declared.broken.Condition.TheVariants.{WildBase, LoadThenStore, Locked}
-use Rattle.alpha_shadow.proofs.Tables.{no_access}
-use Rattle.alpha_shadow.proofs.Places.{WildBase-no_access, no_store, locked_missing, window_first, turn_first}
-use Rattle.alpha_shadow.proofs.Steps.{IsLeastUpTo-skip, open_next}
+use Rattle.alpha_shadow.proofs.WordColumns.{no_access}
+use Rattle.alpha_shadow.proofs.BreakingTriggers.{WildBase-no_access, no_store, locked_missing, window_first, turn_first}
+use Rattle.alpha_shadow.proofs.LeastBrokenSteps.{IsLeastUpTo-skip, open_next}
 use Rattle.alpha_shadow.proofs.place.broken_by_turn.Goals as goal
 
 pub returns : goal.returns
@@ -19,4 +19,4 @@ returns c = λ code s u h.
     let c6 = IsLeastUpTo-skip code at 5 Locked found refl (locked_missing code at (λ t. cc)) c5 in
     let first = turn_first code at (h.kind ∙ ap Some turn) c.first.result
     (window_first code c.args.window.now at s c.first.result c.first.ensures) in
-    open_next code at c.lesser.result h.within (c.lesser.ensures code 6 refl c6 first)
+    open_next code at c.lesser_broken.result h.within (c.lesser_broken.ensures code 6 refl c6 first)

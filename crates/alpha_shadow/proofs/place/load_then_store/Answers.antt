@@ -5,7 +5,7 @@ use Rattle.alpha_shadow.specs.declared.broken.Condition.TheVariants.{LoadThenSto
 use Rattle.alpha_shadow.specs.Place.{IsFirstBroken}
 use Rattle.alpha_shadow.specs.Reach.{MayTouch, reach_of}
 use Rattle.alpha_shadow.proofs.OpenLoads.{any_open_load}
-use Rattle.alpha_shadow.proofs.Places.{window_first, store_found, store_missing}
+use Rattle.alpha_shadow.proofs.BreakingTriggers.{window_first, store_found, store_missing}
 use Rattle.alpha_shadow.proofs.place.load_then_store.Goals as goal
 
 pub returns-then-eq : goal.returns-then-eq

@@ -4,7 +4,8 @@ use Rattle.alpha_table.specs.declared.columns.InsnKind.TheVariants as kinds
 use Rattle.alpha_shadow.specs.declared.broken.Condition.TheVariants.{SourceLost}
 use Rattle.alpha_shadow.specs.Window.{IsFirstThat}
 use Rattle.alpha_shadow.specs.Place.{IsFirstBroken}
-use Rattle.alpha_shadow.proofs.Places.{window_within, source_lost-first, lost_nothing, lost_or_itself, lost_first}
+use Rattle.alpha_shadow.proofs.BreakingTriggers.{window_within, source_lost-first, lost_nothing, lost_or_itself}
+use Rattle.alpha_shadow.proofs.BreakingTriggers.{lost_first}
 use Rattle.alpha_shadow.proofs.place.source_lost.Goals as goal
 
 pub returns-in_err-r : goal.returns-in_err-r

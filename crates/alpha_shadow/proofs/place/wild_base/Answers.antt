@@ -2,7 +2,8 @@ use Rattle.std.proofs.Common.{◌<◌, ◌≤◌, None, Some, slice_index, arith
 use Rattle.alpha_shadow.specs.declared.broken.Condition.TheVariants.{WildBase}
 use Rattle.alpha_shadow.specs.Window.{IsFirstThat}
 use Rattle.alpha_shadow.specs.Place.{IsFirstBroken}
-use Rattle.alpha_shadow.proofs.Places.{window_first, WildBase-first_open, WildBase-none_open, first_has, first_lacks}
+use Rattle.alpha_shadow.proofs.BreakingTriggers.{window_first, WildBase-first_open, WildBase-none_open, first_has}
+use Rattle.alpha_shadow.proofs.BreakingTriggers.{first_lacks}
 use Rattle.alpha_shadow.proofs.place.wild_base.Goals as goal
 
 pub returns-in_err-first : goal.returns-in_err-first

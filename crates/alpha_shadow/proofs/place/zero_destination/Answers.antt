@@ -1,6 +1,6 @@
 use Rattle.std.proofs.Common.{◌≡◌, Some, ap, sym, ◌∙◌, eqb-true, eq-eqb}
 use Rattle.std.specs.Option.{unwrap_or}
-use Rattle.alpha_shadow.proofs.Places.{zero_found, zero_missing}
+use Rattle.alpha_shadow.proofs.BreakingTriggers.{zero_found, zero_missing}
 use Rattle.alpha_shadow.proofs.place.zero_destination.Goals as goal
 
 pub returns-then-eq : goal.returns-then-eq

@@ -5,10 +5,11 @@ use Rattle.alpha_shadow.specs.Broken.{IsAccepted}
 use Rattle.alpha_shadow.specs.Least.{IsLeastBroken}
 use Rattle.alpha_shadow.specs.Window.{Summarizes, IsUnbroken, IsFirstThat}
 use Rattle.alpha_shadow.specs.Place.{IsLeastUpTo}
-use Rattle.alpha_shadow.proofs.Places.{window_first}
+use Rattle.alpha_shadow.proofs.BreakingTriggers.{window_first}
 use Rattle.alpha_shadow.proofs.Barriers.{breaks_nothing, Summarizes-behind_barrier}
 use Rattle.alpha_shadow.proofs.CodeWalk.{IsUnbroken-HasRoom, unbroken_passed, found_least, end_accepted, end_least}
-use Rattle.alpha_shadow.proofs.Stretches.{none_first, known_there, rest_accepted, still_open, insn_within, trigger_here}
+use Rattle.alpha_shadow.proofs.NextTriggers.{none_first, known_there, rest_accepted, still_open, insn_within}
+use Rattle.alpha_shadow.proofs.NextTriggers.{trigger_here}
 use Rattle.alpha_shadow.proofs.verdict.judge_by.Goals as goal
 
 pub quiet-init : goal.quiet-init
@@ -33,20 +34,21 @@ returns-in_default-clause-accepted g c =
 
 -- the trigger where no shadow is open
 
-pub returns-in-Some-begun-clause-broken : goal.returns-in-Some-begun-clause-broken
-returns-in-Some-begun-clause-broken g c =
+pub returns-in-Some-open_shadow-clause-broken : goal.returns-in-Some-open_shadow-clause-broken
+returns-in-Some-open_shadow-clause-broken g c =
     let code = g.F.Fetch.code c.quiet.code in
     let next = c.in-Some.next in
     let found = c.in-Some.ensures.found in
     let known = known_there code c.quiet.at next.place c.quiet.window found.above c.quiet.invariant.none found.quiet
     c.quiet.invariant.summary c.quiet.invariant.unbroken in
     let some =
-    subst (IsLeastUpTo code next.place 9) c.in-Some-begun.is (c.begun.ensures.found code known.0 known.1 found.there) in
-    subst (λ k. IsLeastBroken k c.in-Some-begun.broken) c.quiet.invariant.same
-    (found_least code next.place c.in-Some-begun.broken known.1 some)
+    subst (IsLeastUpTo code next.place 9) c.in-Some-open_shadow.is
+    (c.open_shadow.ensures.found code known.0 known.1 found.there) in
+    subst (λ k. IsLeastBroken k c.in-Some-open_shadow.broken) c.quiet.invariant.same
+    (found_least code next.place c.in-Some-open_shadow.broken known.1 some)
 
-pub returns-in-Some-begun-clause-fetches : goal.returns-in-Some-begun-clause-fetches
-returns-in-Some-begun-clause-fetches g c =
+pub returns-in-Some-open_shadow-clause-fetches : goal.returns-in-Some-open_shadow-clause-fetches
+returns-in-Some-open_shadow-clause-fetches g c =
     let code = g.F.Fetch.code c.quiet.code in
     let within = insn_within code c.in-Some.next.place c.in-Some.next.insn c.in-Some.ensures.found.there in
     let same = ap length c.quiet.invariant.same in
@@ -62,9 +64,9 @@ loop-place-init g c =
     let same = c.in-Some.ensures.code in
     let known = known_there code c.quiet.at next.place c.quiet.window found.above c.quiet.invariant.none found.quiet
     c.quiet.invariant.summary c.quiet.invariant.unbroken in
-    let none = subst (IsLeastUpTo code next.place 9) c.in_default-begun.is
-    (c.begun.ensures.found code known.0 known.1 found.there) in
-    let passed = c.in_default-begun.ensures.none code known.0 found.there in
+    let none = subst (IsLeastUpTo code next.place 9) c.in_default-open_shadow.is
+    (c.open_shadow.ensures.found code known.0 known.1 found.there) in
+    let passed = c.in_default-open_shadow.ensures.none code known.0 found.there in
     let kind = trigger_here code c.quiet.at next found in
     record {
       same = same ∙ c.quiet.invariant.same;
@@ -75,9 +77,9 @@ loop-place-init g c =
           let words = c.quiet.invariant.words in
           omega arith;
       opened =
-          still_open code next.place c.quiet.window c.begun.new.window kinds.Trigger known.0 kind (λ e. cc) none
+          still_open code next.place c.quiet.window c.open_shadow.new.window kinds.Trigger known.0 kind (λ e. cc) none
           (λ q. q.1 refl) passed;
-      summary = subst (λ k. Summarizes k c.begun.new.window (next.place + 1)) (sym same) passed;
+      summary = subst (λ k. Summarizes k c.open_shadow.new.window (next.place + 1)) (sym same) passed;
       unbroken = subst (λ k. IsUnbroken k (next.place + 1)) (sym same) (unbroken_passed code next.place known.1 none);
       fetches = let n = c.in-Some.ensures.looked in let f = c.quiet.invariant.fetches in omega arith;
     }

@@ -1,5 +1,5 @@
 use Rattle.alpha_table.proofs.DecodedInsns.{decoded_is}
-use Rattle.alpha_table.proofs.Tables.{rows_suit}
+use Rattle.alpha_table.proofs.OpcodeTables.{rows_suit}
 use Rattle.alpha_table.proofs.decoder.decode_inline.Goals as goal
 
 pub row_in-requires-clause-rows : goal.row_in-requires-clause-rows

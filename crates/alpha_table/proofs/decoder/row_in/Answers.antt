@@ -1,7 +1,7 @@
 use Rattle.std.proofs.Common.{sym, subst, arith}
 use Rattle.std.specs.Prelude.{slice_index_or, IsTrue, [], ℕ}
 use Rattle.alpha_table.specs.Insn.{matches_row}
-use Rattle.alpha_table.proofs.Tables.{tables-row_at}
+use Rattle.alpha_table.proofs.OpcodeTables.{tables-row_at}
 use Rattle.alpha_table.proofs.decoder.row_in.Goals as goal
 
 pub returns : goal.returns

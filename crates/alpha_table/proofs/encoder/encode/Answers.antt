@@ -1,6 +1,6 @@
 use Rattle.std.proofs.Common.{arith}
 use Rattle.alpha_table.proofs.DecodedInsns.{Row-one_word, IsInsn-Row}
-use Rattle.alpha_table.proofs.Words.{encoded-Row}
+use Rattle.alpha_table.proofs.InsnWords.{encoded-Row}
 use Rattle.alpha_table.proofs.encoder.encode.Goals as goal
 
 pub returns-clause-only : goal.returns-clause-only

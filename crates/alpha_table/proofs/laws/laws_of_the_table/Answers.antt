@@ -1,5 +1,5 @@
 use Rattle.alpha_table.proofs.DecodedInsns.{same_insn, Row-one_word, decoded-Row, Row-decoded, IsInsn-Row}
-use Rattle.alpha_table.proofs.Words.{encoded-Row, some_word}
+use Rattle.alpha_table.proofs.InsnWords.{encoded-Row, some_word}
 use Rattle.alpha_table.proofs.laws.laws_of_the_table.Goals as goal
 
 pub returns : goal.returns

@@ -1,4 +1,4 @@
-use Rattle.alpha_text.proofs.Items.{list-whole, text-whole}
+use Rattle.alpha_text.proofs.ItemLists.{list-whole, text-whole}
 use Rattle.alpha_text.proofs.laws.laws_of_items.Goals as goal
 
 pub returns-clause-list : goal.returns-clause-list

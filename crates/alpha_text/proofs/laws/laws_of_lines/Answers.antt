@@ -1,8 +1,8 @@
 use Rattle.alpha_token.specs.Tokens.{tokens}
 use Rattle.alpha_text.proofs.LineFaults.{read-fault, line-clean}
 use Rattle.alpha_text.proofs.Lines.{read-is}
-use Rattle.alpha_text.proofs.Returns.{read-with_return}
-use Rattle.alpha_text.proofs.Round.{reads_back, canon-injective}
+use Rattle.alpha_text.proofs.CarriageReturns.{read-with_return}
+use Rattle.alpha_text.proofs.CanonicalLines.{reads_back, canon-injective}
 use Rattle.alpha_text.proofs.laws.laws_of_lines.Goals as goal
 
 pub returns-clause-grammar : goal.returns-clause-grammar

@@ -1,5 +1,5 @@
 use Rattle.std.proofs.Common.{◌≡◌, ◌≤◌, ℕ, List, length, ap, arith}
-use Rattle.alpha_text.proofs.Names.{name_of-short}
+use Rattle.alpha_text.proofs.NameLookups.{name_of-short}
 use Rattle.alpha_text.proofs.writer.write_line.Goals as goal
 
 pub push-requires : goal.push-requires

@@ -1,4 +1,4 @@
-use Rattle.alpha_token.proofs.Texts.{first-string, one-text}
+use Rattle.alpha_token.proofs.QuotedTexts.{first-string, one-text}
 use Rattle.alpha_token.proofs.laws.laws_of_strings.Goals as goal
 
 pub returns-clause-string : goal.returns-clause-string

@@ -21,11 +21,14 @@ returns-in-Some-clause-reads c =
     let found : token_at (get_or c.args.line.now 0 0) c.bytes_from-rest.result.now
     ≡ Some (c.in-Some.kind, c.in-Some.more) =
     cc c.in-Some.ensures.value in
-    tokens-next c.args.line.now c.bytes_from-rest.result.now c.front.result.now c.bytes_from.result.now c.in-Some.kind
-    c.in-Some.more (omega arith) c.requires c.if-first-eq35.false c.bytes_from-rest.ensures.value found c.front.ensures
+    tokens-next c.args.line.now c.bytes_from-rest.result.now c.first_bytes.result.now c.bytes_from.result.now
+    c.in-Some.kind
+    c.in-Some.more (omega arith) c.requires c.if-first-eq35.false c.bytes_from-rest.ensures.value found
+    c.first_bytes.ensures
     c.bytes_from.ensures.value
 
 pub returns-in-Some-clause-joins : goal.returns-in-Some-clause-joins
 returns-in-Some-clause-joins c =
-    joins-next c.args.line.now c.bytes_from-rest.result.now c.front.result.now c.bytes_from.result.now c.in-Some.more
-    (omega arith) c.bytes_from-rest.ensures.value c.front.ensures c.bytes_from.ensures.value
+    joins-next c.args.line.now c.bytes_from-rest.result.now c.first_bytes.result.now c.bytes_from.result.now
+    c.in-Some.more
+    (omega arith) c.bytes_from-rest.ensures.value c.first_bytes.ensures c.bytes_from.ensures.value

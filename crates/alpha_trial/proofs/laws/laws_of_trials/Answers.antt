@@ -1,9 +1,9 @@
 use Rattle.alpha_trial.proofs.DecodedProgram.{program_decoded}
 use Rattle.alpha_trial.proofs.WordCounts.{program_size, program_count}
-use Rattle.alpha_trial.proofs.Shadows.{program_accepted}
+use Rattle.alpha_trial.proofs.TrialShadows.{program_accepted}
 use Rattle.alpha_trial.proofs.GoodImage.{image_good}
 use Rattle.alpha_trial.proofs.ExitBlock.{run_exits}
-use Rattle.alpha_trial.proofs.Alike.{run_alike, text_lines}
+use Rattle.alpha_trial.proofs.TrialRunsAlike.{run_alike, text_lines}
 use Rattle.alpha_trial.proofs.laws.laws_of_trials.Goals as goal
 
 pub returns : goal.returns

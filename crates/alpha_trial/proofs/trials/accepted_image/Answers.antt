@@ -2,7 +2,7 @@ use Rattle.std.proofs.Common.{◌≡◌, sym, ap, subst}
 use Rattle.alpha_image.specs.Parts.{Parts}
 use Rattle.alpha_shadow.specs.Broken.{IsAccepted}
 use Rattle.alpha_trial.specs.Words.{program_words}
-use Rattle.alpha_trial.proofs.Shadows.{program_accepted}
+use Rattle.alpha_trial.proofs.TrialShadows.{program_accepted}
 use Rattle.alpha_trial.proofs.trials.accepted_image.Goals as goal
 
 pub unreachable-requires : goal.unreachable-requires

@@ -5,5 +5,6 @@ use Rattle.alpha_values.proofs.bytes.insert_low.Goals as goal
 
 pub returns : goal.returns
 returns c =
-    ap (bit_and c.placed.result) c.from.ensures
-    ∙ (ap (λ m. bit_and m 18446744073709551615) c.placed.ensures ∙ and_mask (inserted c.args.size c.args.a c.args.b) 64)
+    ap (bit_and c.place_bytes.result) c.from.ensures
+    ∙ (ap (λ m. bit_and m 18446744073709551615) c.place_bytes.ensures
+    ∙ and_mask (inserted c.args.size c.args.a c.args.b) 64)

@@ -1,7 +1,7 @@
 use Rattle.std.proofs.Common.{arith}
 use Rattle.std.proofs.lemmas.Int.{to_z-of_z}
 use Rattle.alpha_values.specs.Address.{address_of}
-use Rattle.alpha_values.proofs.Words.{sum_word}
+use Rattle.alpha_values.proofs.MachineWords.{sum_word}
 use Rattle.alpha_values.proofs.displaced.address.Goals as goal
 
 pub returns : goal.returns

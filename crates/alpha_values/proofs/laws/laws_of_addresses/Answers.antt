@@ -1,5 +1,5 @@
 use Rattle.alpha_values.specs.Address.{address_of, high_address_of}
-use Rattle.alpha_values.proofs.Words.{register_bound}
+use Rattle.alpha_values.proofs.MachineWords.{register_bound}
 use Rattle.alpha_values.proofs.AddressLemmas.{access_address-lt, common-meets, meeting-touches, meeting-common}
 use Rattle.alpha_values.proofs.laws.laws_of_addresses.Goals as goal
 

@@ -1,6 +1,6 @@
 use Rattle.std.proofs.Common.{refl}
 use Rattle.alpha_values.specs.TrapOp.{completed_of}
-use Rattle.alpha_values.proofs.Words.{register_bound}
+use Rattle.alpha_values.proofs.MachineWords.{register_bound}
 use Rattle.alpha_values.proofs.LawLemmas.{Overflows-range, completed-wrap, completed-exact}
 use Rattle.alpha_values.proofs.laws.laws_of_completion.Goals as goal
 

@@ -1,6 +1,6 @@
 use Rattle.alpha_values.specs.Op.{result_of}
-use Rattle.alpha_values.proofs.Words.{wrapped_sum, wrapped_difference, wrapped_product}
-use Rattle.alpha_values.proofs.Bounds.{result_bound}
+use Rattle.alpha_values.proofs.MachineWords.{wrapped_sum, wrapped_difference, wrapped_product}
+use Rattle.alpha_values.proofs.ResultBounds.{result_bound}
 use Rattle.alpha_values.proofs.laws.laws_of_results.Goals as goal
 
 pub returns : goal.returns

@@ -1,6 +1,6 @@
 use Rattle.std.proofs.Common.{arith}
 use Rattle.std.proofs.lemmas.Int.{to_z-of_z}
-use Rattle.alpha_values.proofs.Words.{quadword_is}
+use Rattle.alpha_values.proofs.MachineWords.{quadword_is}
 use Rattle.alpha_values.proofs.number.quadword.Goals as goal
 
 pub returns : goal.returns

@@ -9,5 +9,5 @@ returns-in-Some c =
 
 pub returns-in-None : goal.returns-in-None
 returns-in-None c =
-    outcome-none c.args.level c.args.op c.args.a c.args.b c.args.old c.completed_by.result
-    (sym c.in-None.is ∙ c.outcome.ensures) c.completed_by.ensures
+    outcome-none c.args.level c.args.op c.args.a c.args.b c.args.old c.wrapped_result_of.result
+    (sym c.in-None.is ∙ c.outcome.ensures) c.wrapped_result_of.ensures

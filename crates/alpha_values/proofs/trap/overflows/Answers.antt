@@ -4,7 +4,7 @@ use Rattle.std.specs.Int.{w32, w64}
 use Rattle.std.proofs.lemmas.Int.{to_z-of_z}
 use Rattle.alpha_table.specs.declared.op.TrapOp.TheVariants.{SublV, SubqV}
 use Rattle.alpha_values.specs.TrapOp.{exact, overflow_of}
-use Rattle.alpha_values.proofs.Ranges.{overflow_is}
+use Rattle.alpha_values.proofs.SignedRanges.{overflow_is}
 use Rattle.alpha_values.proofs.trap.overflows.Goals as goal
 
 pub returns-in-SublV : goal.returns-in-SublV

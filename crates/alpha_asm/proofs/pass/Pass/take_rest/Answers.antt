@@ -1,6 +1,6 @@
 use Rattle.std.proofs.Common.{◌∙◌}
 use Rattle.alpha_text.specs.Reading.{line_stmt_of}
-use Rattle.alpha_text.proofs.Bounds.{read-within}
+use Rattle.alpha_text.proofs.StatementBounds.{read-within}
 use Rattle.alpha_asm.proofs.LineRefusals.{bad_line, item_line, next_line}
 use Rattle.alpha_asm.proofs.pass.Pass.take_rest.Goals as goal
 

@@ -20,7 +20,7 @@ says_spent _ n left ended lost = refl
 
 pub returns-in-Ended : goal.returns-in-Ended
 returns-in-Ended c = λ left.
-    c.ended.ensures left
+    c.of_end.ensures left
     ∙ sym
     (ap (λ (e : Event). status_answer left (answer_status (Some e) c.args.drawn) (answer_line (Some e))) c.in-Ended.is)
 

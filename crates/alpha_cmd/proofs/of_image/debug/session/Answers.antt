@@ -7,7 +7,7 @@ use Rattle.alpha_request.specs.declared.request.ImageCommand.TheVariants.{Debug}
 use Rattle.alpha_cmd.specs.CommandEffect.{CommandEffect}
 use Rattle.alpha_cmd.specs.OfImage.{on}
 use Rattle.alpha_cmd.proofs.StageEffects.{does_not_start}
-use Rattle.alpha_cmd.proofs.Ended.{input_unended, said_unended}
+use Rattle.alpha_cmd.proofs.EndStatuses.{input_unended, said_unended}
 use Rattle.alpha_cmd.proofs.SessionsTold.{session_decides, session_whole, session_unread, session_unwritten}
 use Rattle.alpha_cmd.proofs.SessionsTold.{Follows-LeavesTail, tail_same}
 use Rattle.alpha_cmd.proofs.of_image.debug.session.Goals as goal

@@ -2,8 +2,8 @@ use Rattle.std.proofs.Common.{◌≡◌, true, []}
 use Rattle.alpha_debug.specs.Session.{continue_until, if_not_ended}
 use Rattle.alpha_debug.specs.Effects.{setting_of}
 use Rattle.alpha_debug.specs.OutputChange.{output_change_by, AppendsOutput, SinkFailsWith}
-use Rattle.alpha_debug.proofs.Sinks.{OnOk-map, OnErr-map}
-use Rattle.alpha_debug.proofs.Sessions.{then_put, then_fails, hands}
+use Rattle.alpha_debug.proofs.SinkEffects.{OnOk-map, OnErr-map}
+use Rattle.alpha_debug.proofs.Sessions.{then_put, then_fails, IsQuiet-or_nothing_waits}
 use Rattle.alpha_debug.proofs.debugger.Debugger.continue_until.Goals as goal
 
 pub returns-clause-ok : goal.returns-clause-ok
@@ -23,7 +23,8 @@ pub returns-clause-handed : goal.returns-clause-handed
 returns-clause-handed g c =
     OnOk-map c.flush_due.result
     (λ (empty : c.run_until.new.self.watcher.has_put ≡ true → c.flush_due.new.self ≡ []).
-    hands c.run_until.new.self.watcher.has_put (if_not_ended (setting_of c.args.self.now) c.args.until c.args.most)
+    IsQuiet-or_nothing_waits c.run_until.new.self.watcher.has_put
+    (if_not_ended (setting_of c.args.self.now) c.args.until c.args.most)
     c.args.self.now c.flush_due.new.self c.in_ok-run_until.ensures.quiet empty)
     c.flush_due.ensures.empty
 

@@ -2,7 +2,7 @@ use Rattle.std.proofs.Common.{◌≡◌, ◌∙◌, subst}
 use Rattle.alpha_debug.specs.Session.{if_not_ended}
 use Rattle.alpha_debug.specs.Lines.{where_line}
 use Rattle.alpha_debug.specs.Effects.{setting_of}
-use Rattle.alpha_debug.proofs.Sinks.{OnOk-map, OnErr-map}
+use Rattle.alpha_debug.proofs.SinkEffects.{OnOk-map, OnErr-map}
 use Rattle.alpha_debug.proofs.Sessions.{where_line_put, where_fails}
 use Rattle.alpha_debug.specs.OutputChange.{output_change_by, AppendsOutput, SinkFailsWith}
 use Rattle.alpha_debug.proofs.debugger.Debugger.run_until.Goals as goal

@@ -6,7 +6,7 @@ use Rattle.alpha_image.specs.Parts.{IsByte}
 use Rattle.alpha_image.specs.Reading.{numbered_level}
 use Rattle.alpha_image.specs.ImageFault.{word_fault}
 use Rattle.alpha_image.specs.Tells.{Refuses}
-use Rattle.alpha_image.proofs.Form.{IsBytes-All}
+use Rattle.alpha_image.proofs.ReadSpelling.{IsBytes-All}
 use Rattle.alpha_image.proofs.OfFile.{words_cut, code_cut, of_file}
 use Rattle.alpha_image.proofs.image.Image.of_file.Goals as goal
 

@@ -4,7 +4,7 @@ use Rattle.alpha_table.specs.Encoded.{encoded}
 use Rattle.alpha_image.specs.Header.{header_numbers}
 use Rattle.alpha_image.specs.Reading.{numbered_level}
 use Rattle.alpha_image.proofs.CodeInsns.{code_words_of_insns}
-use Rattle.alpha_image.proofs.Form.{IsImage-of_words, numbers-parts_with}
+use Rattle.alpha_image.proofs.ReadSpelling.{IsImage-of_words, numbers-parts_with}
 use Rattle.alpha_image.proofs.image.Image.of_parts.Goals as goal
 
 pub returns-clause-good : goal.returns-clause-good

@@ -2,7 +2,7 @@ use Rattle.std.proofs.lemmas.Result.{IfOk-weaker, IfErr-weaker}
 use Rattle.alpha_io.specs.SinkChange.{sink_change}
 use Rattle.alpha_seq.specs.Devices.{drawn}
 use Rattle.alpha_imprecise.specs.Oracle.{oracle_of}
-use Rattle.alpha_imprecise.proofs.ByWords.{words-make, words-break}
+use Rattle.alpha_imprecise.proofs.StepsByWords.{words-make, words-break}
 use Rattle.alpha_imprecise.proofs.ShorterRuns.{waits_left-falls}
 use Rattle.alpha_imprecise.proofs.wild.Wild.step.Goals as goal
 

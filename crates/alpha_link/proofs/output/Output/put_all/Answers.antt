@@ -2,7 +2,7 @@ use Rattle.std.proofs.Common.{ap, ◌∙◌, refl, not}
 use Rattle.alpha_link.specs.declared.relocation.Relocation.{Relocation}
 use Rattle.alpha_link.specs.Parts.{ModuleParts}
 use Rattle.alpha_link.specs.Linked.{Located, is_in_range}
-use Rattle.alpha_link.proofs.Lists.{position_begins}
+use Rattle.alpha_link.proofs.LoopLists.{position_begins}
 use Rattle.alpha_link.proofs.output.Output.put_all.Goals as goal
 
 pub loop-number-init : goal.loop-number-init

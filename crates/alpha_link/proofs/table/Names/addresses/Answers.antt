@@ -11,7 +11,7 @@ pub returns-then-defines_all-clause-value : goal.returns-then-defines_all-clause
 returns-then-defines_all-clause-value c =
     let same =
     ap (λ (m : ModuleParts). m.symbols) c.module.view_is ∙ ap (λ (l : Located). l.parts.symbols) c.located.view_is in
-    c.own.ensures
+    c.of_module.ensures
     ∙ all_own (found_in c.args.self.now) c.args.located.now c.requires
     (ap (list_all (λ (s : Named). is_defined s.section)) (sym same)
     ∙ (sym c.defines_all.ensures ∙ c.if-defines_all.true))

@@ -6,7 +6,7 @@ use Rattle.alpha_link.specs.Parts.{ModuleParts}
 use Rattle.alpha_link.specs.Linked.{Located}
 use Rattle.alpha_link.specs.Addresses.{address_by_own}
 use Rattle.alpha_link.specs.Names.{found_in}
-use Rattle.alpha_link.proofs.Lists.{take_get}
+use Rattle.alpha_link.proofs.LoopLists.{take_get}
 use Rattle.alpha_link.proofs.table.Names.addresses_of.Goals as goal
 
 pub loop-number-preserved : goal.loop-number-preserved

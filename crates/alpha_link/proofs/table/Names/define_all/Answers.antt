@@ -10,8 +10,8 @@ use Rattle.alpha_link.specs.Parts.{ModuleParts, IsModule}
 use Rattle.alpha_link.specs.Linked.{Located, section_address, is_defined}
 use Rattle.alpha_link.specs.Names.{found_in}
 use Rattle.alpha_link.specs.GlobalSymbols.{GlobalSymbol, global_symbols}
-use Rattle.alpha_link.proofs.Lists.{position_begins, position_stops, position_goes}
-use Rattle.alpha_link.proofs.Apart.{find-IsSymbol, find-next_symbol}
+use Rattle.alpha_link.proofs.LoopLists.{position_begins, position_stops, position_goes}
+use Rattle.alpha_link.proofs.NamesApart.{find-IsSymbol, find-next_symbol}
 use Rattle.alpha_link.proofs.AreEntered.{symbol_there}
 use Rattle.alpha_link.proofs.table.Names.define_all.Goals as goal
 

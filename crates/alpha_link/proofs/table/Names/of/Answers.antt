@@ -5,7 +5,7 @@ use Rattle.alpha_link.specs.Linked.{Located, repeated}
 use Rattle.alpha_link.proofs.NameAddresses.{take-next_module, find-next_module, none_again, refused_again}
 use Rattle.alpha_link.specs.GlobalSymbols.{global_symbols, used_symbols, is_of, address_at}
 use Rattle.alpha_names.specs.Finder.{number_in}
-use Rattle.alpha_link.proofs.Lists.{drop-get_or}
+use Rattle.alpha_link.proofs.LoopLists.{drop-get_or}
 use Rattle.alpha_link.proofs.OwnAddresses.{all_know, whole_row}
 use Rattle.alpha_link.proofs.AreEntered.{count_next, next_standings, nothing_found}
 use Rattle.alpha_link.proofs.table.Names.of.Goals as goal

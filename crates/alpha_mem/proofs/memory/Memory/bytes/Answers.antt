@@ -1,8 +1,8 @@
 use Rattle.std.proofs.Common.{◌≡◌, Some, None, position, refl, sym, ap, ◌∙◌}
 use Rattle.std.proofs.lemmas.Bool.{false≢true}
 use Rattle.alpha_mem.specs.Memory.{bytes_at}
-use Rattle.alpha_mem.proofs.Places.{place-spans, bytes_at-empty, place-spans-at_position, part-at_position}
-use Rattle.alpha_mem.proofs.Places.{within-found, within-missing}
+use Rattle.alpha_mem.proofs.BlockPlaces.{place-spans, bytes_at-empty, place-spans-at_position, part-at_position}
+use Rattle.alpha_mem.proofs.BlockPlaces.{within-found, within-missing}
 use Rattle.alpha_mem.proofs.memory.Memory.bytes.Goals as goal
 
 pub returns-then-len-eq0-clause-found : goal.returns-then-len-eq0-clause-found

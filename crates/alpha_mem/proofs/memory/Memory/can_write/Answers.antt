@@ -1,7 +1,7 @@
 use Rattle.std.proofs.Common.{◌≡◌, ◌&&◌, sym, ap, ◌∙◌}
 use Rattle.std.specs.List.{list_any}
 use Rattle.alpha_mem.specs.Block.{Block, shape_of, holds}
-use Rattle.alpha_mem.proofs.Places.{within-writable}
+use Rattle.alpha_mem.proofs.BlockPlaces.{within-writable}
 use Rattle.alpha_mem.proofs.memory.Memory.can_write.Goals as goal
 
 pub returns-else-len-eq0-clause-value : goal.returns-else-len-eq0-clause-value

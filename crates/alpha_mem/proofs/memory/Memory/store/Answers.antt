@@ -6,7 +6,7 @@ use Rattle.alpha_mem.specs.Block.{Block, shapes}
 use Rattle.alpha_mem.specs.Memory.{write_bytes, IsLayout, IsMemory}
 use Rattle.alpha_mem.proofs.Numbers.{low_bytes-byte}
 use Rattle.alpha_mem.proofs.Faults.{answers_align, answers_none, answers_region}
-use Rattle.alpha_mem.proofs.Places.{place-spans-at_position}
+use Rattle.alpha_mem.proofs.BlockPlaces.{place-spans-at_position}
 use Rattle.alpha_mem.proofs.Bytes.{shapes-write_bytes}
 use Rattle.alpha_mem.proofs.Memories.{IsMemory-write_bytes}
 use Rattle.alpha_mem.proofs.Writable.{place_found, store_there, set-stored}

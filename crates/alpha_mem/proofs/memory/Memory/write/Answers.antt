@@ -1,7 +1,7 @@
 use Rattle.std.proofs.Common.{◌≡◌, Some, None, get_or, set, length, position, sym, ap, subst, ◌∙◌, arith}
 use Rattle.alpha_mem.specs.Block.{shapes}
 use Rattle.alpha_mem.specs.Memory.{write_bytes, IsMemory}
-use Rattle.alpha_mem.proofs.Places.{place-spans, place-spans-at_position, set-at_position, unchanged-missing}
+use Rattle.alpha_mem.proofs.BlockPlaces.{place-spans, place-spans-at_position, set-at_position, unchanged-missing}
 use Rattle.alpha_mem.proofs.Bytes.{shapes-write_bytes}
 use Rattle.alpha_mem.proofs.Memories.{IsMemory-write_bytes}
 use Rattle.alpha_mem.proofs.memory.Memory.write.Goals as goal

@@ -6,23 +6,23 @@ use Rattle.alpha_pal.proofs.kernel.Kernel.set_user_reg.Goals as goal
 
 pub returns-in-16-clause-user : goal.returns-in-16-clause-user
 returns-in-16-clause-user c =
-    user_regs-saved_16 c.args.self.now _ c.saved-frame.result c.args.regs.now c.args.r c.args.value
-    c.saved-frame.ensures c.save.ensures (sym c.number.ensures.value ∙ c.in-16.is)
+    user_regs-saved_16 c.args.self.now _ c.last_frame-frame.result c.args.regs.now c.args.r c.args.value
+    c.last_frame-frame.ensures c.save.ensures (sym c.number.ensures.value ∙ c.in-16.is)
 
 pub returns-in-17-clause-user : goal.returns-in-17-clause-user
 returns-in-17-clause-user c =
-    user_regs-saved_17 c.args.self.now _ c.saved-frame.result c.args.regs.now c.args.r c.args.value
-    c.saved-frame.ensures c.save-in-17.ensures (sym c.number.ensures.value ∙ c.in-17.is)
+    user_regs-saved_17 c.args.self.now _ c.last_frame-frame.result c.args.regs.now c.args.r c.args.value
+    c.last_frame-frame.ensures c.save-in-17.ensures (sym c.number.ensures.value ∙ c.in-17.is)
 
 pub returns-in-18-clause-user : goal.returns-in-18-clause-user
 returns-in-18-clause-user c =
-    user_regs-saved_18 c.args.self.now _ c.saved-frame.result c.args.regs.now c.args.r c.args.value
-    c.saved-frame.ensures c.save-in-18.ensures (sym c.number.ensures.value ∙ c.in-18.is)
+    user_regs-saved_18 c.args.self.now _ c.last_frame-frame.result c.args.regs.now c.args.r c.args.value
+    c.last_frame-frame.ensures c.save-in-18.ensures (sym c.number.ensures.value ∙ c.in-18.is)
 
 pub returns-in-29-clause-user : goal.returns-in-29-clause-user
 returns-in-29-clause-user c =
-    user_regs-saved_29 c.args.self.now _ c.saved-frame.result c.args.regs.now c.args.r c.args.value
-    c.saved-frame.ensures c.save-in-29.ensures (sym c.number.ensures.value ∙ c.in-29.is)
+    user_regs-saved_29 c.args.self.now _ c.last_frame-frame.result c.args.regs.now c.args.r c.args.value
+    c.last_frame-frame.ensures c.save-in-29.ensures (sym c.number.ensures.value ∙ c.in-29.is)
 
 pub returns-in-30-clause-user : goal.returns-in-30-clause-user
 returns-in-30-clause-user c =

@@ -7,25 +7,25 @@ use Rattle.alpha_pal.proofs.kernel.Kernel.user_reg.Goals as goal
 
 pub returns-in-16 : goal.returns-in-16
 returns-in-16 c =
-    ap (λ f. f.r16) c.saved-frame.ensures
+    ap (λ f. f.r16) c.last_frame-frame.ensures
     ∙ (sym (reg_16-user_regs c.args.self.now c.args.regs.now c.get-live.ensures.file.size)
     ∙ ap (λ r. reg (user_regs c.args.self.now c.args.regs.now) r) (sym c.in-16.is ∙ c.number.ensures.value))
 
 pub returns-in-17 : goal.returns-in-17
 returns-in-17 c =
-    ap (λ f. f.r17) c.saved-frame.ensures
+    ap (λ f. f.r17) c.last_frame-frame.ensures
     ∙ (sym (reg_17-user_regs c.args.self.now c.args.regs.now c.get-live.ensures.file.size)
     ∙ ap (λ r. reg (user_regs c.args.self.now c.args.regs.now) r) (sym c.in-17.is ∙ c.number.ensures.value))
 
 pub returns-in-18 : goal.returns-in-18
 returns-in-18 c =
-    ap (λ f. f.r18) c.saved-frame.ensures
+    ap (λ f. f.r18) c.last_frame-frame.ensures
     ∙ (sym (reg_18-user_regs c.args.self.now c.args.regs.now c.get-live.ensures.file.size)
     ∙ ap (λ r. reg (user_regs c.args.self.now c.args.regs.now) r) (sym c.in-18.is ∙ c.number.ensures.value))
 
 pub returns-in-29 : goal.returns-in-29
 returns-in-29 c =
-    ap (λ f. f.gp) c.saved-frame.ensures
+    ap (λ f. f.gp) c.last_frame-frame.ensures
     ∙ (sym (reg_29-user_regs c.args.self.now c.args.regs.now c.get-live.ensures.file.size)
     ∙ ap (λ r. reg (user_regs c.args.self.now c.args.regs.now) r) (sym c.in-29.is ∙ c.number.ensures.value))
 

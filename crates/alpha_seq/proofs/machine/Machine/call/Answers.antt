@@ -10,7 +10,7 @@ use Rattle.alpha_seq.specs.State.{Barriered, Ends}
 use Rattle.alpha_seq.specs.Step.{next_pc, lock_after}
 use Rattle.alpha_seq.specs.Devices.{drawn}
 use Rattle.alpha_seq.specs.Machine.{program_of, state_of}
-use Rattle.alpha_seq.proofs.Calls.{called_machine, call-continues, call-exits, call-signals, call-breaks}
+use Rattle.alpha_seq.proofs.PalCallSteps.{called_machine, call-continues, call-exits, call-signals, call-breaks}
 use Rattle.alpha_seq.proofs.ExecutedInsns.{called-kernel}
 use Rattle.alpha_seq.proofs.StepsMade.{MakesStep-effect}
 use Rattle.alpha_seq.proofs.machine.Machine.call.Goals as goal

@@ -2,7 +2,7 @@ use Rattle.std.proofs.Common.{sym, refl}
 use Rattle.alpha_table.specs.ClassOf.{class_of}
 use Rattle.alpha_table.specs.declared.columns.InsnKind.TheVariants as kinds
 use Rattle.alpha_table.proofs.CodeWords.{class_at-decoded_word}
-use Rattle.alpha_shadow.proofs.Tables.{kind_at-class, kind_within}
+use Rattle.alpha_shadow.proofs.WordColumns.{kind_at-class, kind_within}
 use Rattle.alpha_shadow.proofs.columns.Columns.of_trigger.Goals as goal
 
 pub returns-clause-columns : goal.returns-clause-columns

@@ -1,6 +1,6 @@
 use Rattle.std.proofs.Common.{◌+◌, ◌∙◌, length, ap, sym, subst, arith}
 use Rattle.alpha_shadow.specs.NoTrigger.{IsNoTrigger, AreNoTriggers}
-use Rattle.alpha_shadow.proofs.Stretches.{quiet_more}
+use Rattle.alpha_shadow.proofs.NextTriggers.{quiet_more}
 use Rattle.alpha_shadow.proofs.fetch.Fetch.next_trigger.Goals as goal
 
 pub loop-place-preserved : goal.loop-place-preserved

@@ -4,7 +4,7 @@ use Rattle.alpha_table.specs.Encoded.{encoded}
 use Rattle.alpha_shadow.specs.Fetched.{Fetched}
 use Rattle.alpha_shadow.specs.NoTrigger.{AreNoTriggers, IsNextTrigger}
 use Rattle.alpha_shadow.specs.declared.fetch.NextTrigger.{NextTrigger}
-use Rattle.alpha_shadow.proofs.Stretches.{quiet_insns, trigger_there}
+use Rattle.alpha_shadow.proofs.NextTriggers.{quiet_insns, trigger_there}
 use Rattle.alpha_shadow.proofs.insn_code.InsnCodeFetch.next_trigger.Goals as goal
 
 pub returns-then-place-self-clause-none : goal.returns-then-place-self-clause-none

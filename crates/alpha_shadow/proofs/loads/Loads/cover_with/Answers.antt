@@ -7,6 +7,6 @@ pub returns : goal.returns
 returns c =
     let inside = c.self.inside in
     let all = subst (λ cover. IsCover cover (take inside.len inside.held)) c.in_ok-self.was c.self.invariant.2 in
-    subst (λ held. IsCover c.joined.result (held.items ++ c.args.load.now ∷ [])) c.self.view_is
-    (cover_joined c.in_ok-self.field-0 c.args.load.now c.joined.result
-    (take inside.len inside.held) all c.joined.ensures.first c.joined.ensures.second)
+    subst (λ held. IsCover c.join.result (held.items ++ c.args.load.now ∷ [])) c.self.view_is
+    (cover_joined c.in_ok-self.field-0 c.args.load.now c.join.result
+    (take inside.len inside.held) all c.join.ensures.first c.join.ensures.second)

@@ -1,7 +1,7 @@
 use Rattle.std.proofs.Common.{sym, ap}
 use Rattle.std.specs.Option.{option_map}
 use Rattle.alpha_shadow.specs.Window.{place_of}
-use Rattle.alpha_shadow.proofs.Places.{none_within}
+use Rattle.alpha_shadow.proofs.BreakingTriggers.{none_within}
 use Rattle.alpha_shadow.proofs.window.Window.first_within.Goals as goal
 
 pub returns-then-to-from : goal.returns-then-to-from

@@ -1,5 +1,5 @@
 use Rattle.std.proofs.Common.{arith}
-use Rattle.alpha_table.proofs.Forms.{IsKnown-decoded}
+use Rattle.alpha_table.proofs.InsnForms.{IsKnown-decoded}
 use Rattle.alpha_table.proofs.insn.Insn.at.Goals as goal
 
 pub invariant_of-result : goal.invariant_of-result

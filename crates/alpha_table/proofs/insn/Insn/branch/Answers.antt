@@ -3,7 +3,7 @@ use Rattle.std.specs.Int.{w32}
 use Rattle.std.proofs.lemmas.Int.{to_z-of_z}
 use Rattle.alpha_table.specs.declared.form.Form.TheVariants.{Branch}
 use Rattle.alpha_table.proofs.DecodedInsns.{same_insn}
-use Rattle.alpha_table.proofs.Forms.{Row-Decodes}
+use Rattle.alpha_table.proofs.InsnForms.{Row-Decodes}
 use Rattle.alpha_table.proofs.insn.Insn.branch.Goals as goal
 
 pub at-requires : goal.at-requires

@@ -1,4 +1,4 @@
-use Rattle.alpha_table.proofs.Forms.{known-stands}
+use Rattle.alpha_table.proofs.InsnForms.{known-stands}
 use Rattle.alpha_table.proofs.insn.Insn.form.Goals as goal
 
 pub form_in-requires : goal.form_in-requires

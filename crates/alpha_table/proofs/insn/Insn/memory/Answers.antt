@@ -3,7 +3,7 @@ use Rattle.std.specs.Int.{w16}
 use Rattle.std.proofs.lemmas.Int.{to_z-of_z}
 use Rattle.alpha_table.specs.declared.form.Form.TheVariants.{Mem}
 use Rattle.alpha_table.proofs.DecodedInsns.{same_insn}
-use Rattle.alpha_table.proofs.Forms.{Row-Decodes}
+use Rattle.alpha_table.proofs.InsnForms.{Row-Decodes}
 use Rattle.alpha_table.proofs.insn.Insn.memory.Goals as goal
 
 pub at-requires : goal.at-requires

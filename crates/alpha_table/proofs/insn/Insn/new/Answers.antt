@@ -1,7 +1,7 @@
 use Rattle.std.proofs.Common.{ap, sym, subst, ◌∙◌, arith}
 use Rattle.alpha_table.specs.declared.insn.InsnRow.{InsnRow}
 use Rattle.alpha_table.specs.Insn.{Decodes, form_in}
-use Rattle.alpha_table.proofs.Forms.{IsKnown-decoded, Row-Decodes, same_form}
+use Rattle.alpha_table.proofs.InsnForms.{IsKnown-decoded, Row-Decodes, same_form}
 use Rattle.alpha_table.proofs.insn.Insn.new.Goals as goal
 
 pub invariant_of-result : goal.invariant_of-result

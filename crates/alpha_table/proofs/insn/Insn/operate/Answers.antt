@@ -1,6 +1,6 @@
 use Rattle.alpha_table.specs.declared.form.Form.TheVariants.{Operate}
 use Rattle.alpha_table.proofs.DecodedInsns.{same_insn}
-use Rattle.alpha_table.proofs.Forms.{Row-Decodes}
+use Rattle.alpha_table.proofs.InsnForms.{Row-Decodes}
 use Rattle.alpha_table.proofs.insn.Insn.operate.Goals as goal
 
 pub at-requires : goal.at-requires

@@ -1,6 +1,6 @@
 use Rattle.std.proofs.Common.{subst}
 use Rattle.alpha_table.specs.Row.{Row}
-use Rattle.alpha_table.proofs.Forms.{known-stands}
+use Rattle.alpha_table.proofs.InsnForms.{known-stands}
 use Rattle.alpha_table.proofs.insn.Insn.word.Goals as goal
 
 pub returns : goal.returns

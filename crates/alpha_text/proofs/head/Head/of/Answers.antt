@@ -1,5 +1,5 @@
 use Rattle.std.proofs.Common.{Some, None, sym}
-use Rattle.alpha_text.proofs.Names.{head_of-insn, head_of-pseudo_op}
+use Rattle.alpha_text.proofs.NameLookups.{head_of-insn, head_of-pseudo_op}
 use Rattle.alpha_text.proofs.head.Head.of.Goals as goal
 
 pub returns-in-Some : goal.returns-in-Some

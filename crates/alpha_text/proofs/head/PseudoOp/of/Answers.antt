@@ -3,4 +3,4 @@ use Rattle.alpha_text.proofs.head.PseudoOp.of.Goals as goal
 
 pub returns : goal.returns
 unfolding every_pseudo_op
-returns c = c.named.ensures
+returns c = c.find_pseudo_op.ensures

@@ -1,0 +1,147 @@
+-- A file that was read up to some place.
+use Rattle.std.proofs.Common.{◌≡◌, ◌≢◌, All, ℕ, ◌+◌, List, [], ◌∷◌, ◌++◌, length, drop, None, Some, refl, sym, ap, ◌∙◌}
+use Rattle.std.proofs.Common.{subst, append_assoc, append-nil, length-append, arith}
+use Rattle.std.specs.List.{concat}
+use Rattle.std.proofs.lemmas.List.{append_cancel_left}
+use Rattle.std.proofs.lemmas.List.Elements.{All-nil, All-cons, All-head, All-tail, All-append}
+use Rattle.std.proofs.lemmas.List.Folds.{concat-append}
+use Rattle.alpha_io.specs.History.{Reply, Piece, pieces_from, IsReadWhole}
+
+abbrev IsSome : List ℕ → Type 0
+IsSome piece = piece ≢ []
+
+pub record IsReadTo (old new : List Reply) (name bytes : List ℕ) : Type 0 where
+  pub pieces : List (List ℕ)
+  pub some : All (λ piece. piece ≢ []) pieces
+  pub whole : concat pieces ≡ bytes
+  pub calls : new ≡ old ++ pieces_from name 0 pieces
+
+pub pieces_from-more : (name : List ℕ) (at : ℕ) (pieces : List (List ℕ)) (p : List ℕ)
+    → pieces_from name at (pieces ++ p ∷ [])
+    ≡ pieces_from name at pieces ++ Piece name (at + length (concat pieces)) (Some p) ∷ []
+pieces_from-more name at [] p = ap (λ n. Piece name n (Some p) ∷ []) (omega arith)
+pieces_from-more name at (q ∷ qs) p =
+    let next : at + length q + length (concat qs) ≡ at + length (q ++ concat qs) =
+    omega (arith, length-append q (concat qs)) in
+    ap (λ xs. Piece name at (Some q) ∷ xs) (pieces_from-more name (at + length q) qs p
+    ∙ ap (λ n. pieces_from name (at + length q) qs ++ Piece name n (Some p) ∷ []) next)
+
+pub IsReadTo-start : (old : List Reply) (name : List ℕ) → IsReadTo old old name []
+IsReadTo-start old name = record { pieces = []; some = All-nil IsSome; whole = refl; calls = sym (append-nil old) }
+
+pub IsReadTo-more : (old new after : List Reply) (name bytes more p : List ℕ) → IsReadTo old new name bytes → p ≢ []
+    → after ≡ new ++ Piece name (length bytes) (Some p) ∷ [] → more ≡ bytes ++ p → IsReadTo old after name more
+IsReadTo-more old new after name bytes more p so some is then =
+    let place : length bytes ≡ 0 + length (concat so.pieces) = omega (arith, ap (λ (l : List ℕ). length l) so.whole) in
+    record {
+      pieces = so.pieces ++ p ∷ [];
+      some = All-append IsSome so.pieces (p ∷ []) so.some (All-cons IsSome p [] some (All-nil IsSome));
+      whole =
+          concat-append so.pieces (p ∷ []) ∙ ap (λ l. l ++ (p ++ [])) so.whole
+          ∙ ap (λ l. bytes ++ l) (append-nil p) ∙ sym
+          then;
+      calls = is ∙ ap (λ l. l ++ Piece name (length bytes) (Some p) ∷ []) so.calls
+          ∙ append_assoc old (pieces_from name 0 so.pieces) (Piece name (length bytes) (Some p) ∷ [])
+          ∙ ap (λ l. old ++ l) (ap (λ n. pieces_from name 0 so.pieces ++ Piece name n (Some p) ∷ []) place
+          ∙ sym (pieces_from-more name 0 so.pieces p));
+    }
+
+-- a piece of some bytes isn't empty
+pub some_bytes : (n : ℕ) (piece : List ℕ) → n ≡ length piece → n ≢ 0 → piece ≢ []
+some_bytes n piece size some = λ none. some (size ∙ ap (λ (l : List ℕ). length l) none)
+
+pub IsReadTo-whole : (old new after : List Reply) (name bytes : List ℕ) → IsReadTo old new name bytes
+    → after ≡ new ++ Piece name (length bytes) (Some []) ∷ [] → IsReadWhole old after name bytes
+IsReadTo-whole old new after name bytes so is = record {
+  pieces = so.pieces;
+  some = so.some;
+  whole = so.whole;
+  calls = is ∙ ap (λ l. l ++ Piece name (length bytes) (Some []) ∷ []) so.calls;
+}
+
+-- ---- how a file was read says what it holds
+
+-- the bytes of the first of these pieces
+abbrev first_bytes : List Reply → List ℕ
+first_bytes (Piece name at (Some bytes) ∷ replies) = bytes
+first_bytes replies = []
+
+-- 1 where the first of these pieces was given
+abbrev first_given : List Reply → ℕ
+first_given (Piece name at (Some bytes) ∷ replies) = 1
+first_given replies = 0
+
+-- the reply that says where a file ends
+abbrev end_of_file : List ℕ → ℕ → List Reply
+end_of_file name at = Piece name at (Some []) ∷ []
+
+-- behind the same first piece, the rest is the same
+rest_from : (name : List ℕ) (at : ℕ) (p q : List ℕ) (xs : List Reply) (qs : List (List ℕ)) (ys : List Reply)
+    → Piece name at (Some p) ∷ xs ≡ (Piece name at (Some q) ∷ pieces_from name (at + length q) qs) ++ ys
+    → xs ≡ pieces_from name (at + length p) qs ++ ys
+rest_from name at p q xs qs ys same =
+    subst (λ (l : List ℕ). xs ≡ pieces_from name (at + length l) qs ++ ys) (sym (ap first_bytes same))
+    (ap (λ (l : List Reply). drop 1 l) same)
+
+-- pieces that all have bytes don't end a file
+pieces-not_ended : (name : List ℕ) (at n : ℕ) (ps qs : List (List ℕ)) → All IsSome ps
+    → pieces_from name at ps ≡ pieces_from name at qs ++ end_of_file name n → ⊥
+pieces-not_ended name at n [] [] some same = omega (arith, ap (λ (l : List Reply). length l) same)
+pieces-not_ended name at n [] (q ∷ qs) some same = omega (arith, ap first_given same)
+pieces-not_ended name at n (p ∷ ps) [] some same = All-head IsSome p ps some (ap first_bytes same)
+pieces-not_ended name at n (p ∷ ps) (q ∷ qs) some same =
+    pieces-not_ended name (at + length p) n ps qs (All-tail IsSome p ps some) (rest_from name at p q _ qs _ same)
+
+-- nor do pieces of which the last wasn't given
+pieces_from-not_given : (name : List ℕ) (at m n : ℕ) (ps qs : List (List ℕ)) → All IsSome ps
+    → pieces_from name at ps ++ Piece name m None ∷ [] ≡ pieces_from name at qs ++ end_of_file name n → ⊥
+pieces_from-not_given name at m n [] [] some same = omega (arith, ap first_given same)
+pieces_from-not_given name at m n [] (q ∷ qs) some same = omega (arith, ap first_given same)
+pieces_from-not_given name at m n (p ∷ ps) [] some same = All-head IsSome p ps some (ap first_bytes same)
+pieces_from-not_given name at m n (p ∷ ps) (q ∷ qs) some same =
+    pieces_from-not_given name (at + length p) m n ps qs (All-tail IsSome p ps some) (rest_from name at p q _ qs _ same)
+
+-- files that the same pieces end are the same
+same_pieces : (name : List ℕ) (at m n : ℕ) (ps qs : List (List ℕ)) → All IsSome ps → All IsSome qs
+    → pieces_from name at ps ++ end_of_file name m ≡ pieces_from name at qs ++ end_of_file name n → concat ps ≡ concat qs
+same_pieces name at m n [] [] some more same = refl
+same_pieces name at m n [] (q ∷ qs) some more same = absurd (All-head IsSome q qs more (sym (ap first_bytes same)))
+same_pieces name at m n (p ∷ ps) [] some more same = absurd (All-head IsSome p ps some (ap first_bytes same))
+same_pieces name at m n (p ∷ ps) (q ∷ qs) some more same =
+    let rest : concat ps ≡ concat qs =
+    same_pieces name (at + length p) m n ps qs (All-tail IsSome p ps some) (All-tail IsSome q qs more)
+    (rest_from name at p q _ qs _ same) in
+    ap (λ l. p ++ l) rest ∙ ap (λ l. l ++ concat qs) (ap first_bytes same)
+
+-- the calls behind those before
+from_end : {old new : List Reply} {name file : List ℕ} → (whole : IsReadWhole old new name file)
+    → new ≡ old ++ (pieces_from name 0 whole.pieces ++ end_of_file name (length file))
+from_end {old} {new} {name} {file} whole =
+    whole.calls ∙ append_assoc old (pieces_from name 0 whole.pieces) (end_of_file name (length file))
+
+-- what was read whole between two moments is one file
+pub one_file : (old new : List Reply) (name first second : List ℕ) → IsReadWhole old new name first
+    → IsReadWhole old new name second
+    → first ≡ second
+one_file old new name first second one other =
+    sym one.whole
+    ∙ same_pieces name 0 (length first) (length second) one.pieces other.pieces one.some other.some
+    (append_cancel_left old _ _ (sym (from_end one) ∙ from_end other))
+    ∙ other.whole
+
+-- a file that was read up to some place wasn't read whole
+pub unended_file : (old new : List Reply) (name bytes file : List ℕ) → IsReadTo old new name bytes
+    → IsReadWhole old new name file → ⊥
+unended_file old new name bytes file so whole =
+    pieces-not_ended name 0 (length file) so.pieces whole.pieces so.some
+    (append_cancel_left old _ _ (sym so.calls ∙ from_end whole))
+
+-- nor was one of which a piece couldn't be read
+pub ungiven_file : (old new after : List Reply) (name bytes file : List ℕ) (at : ℕ) → IsReadTo old new name bytes
+    → after ≡ new ++ Piece name at None ∷ [] → IsReadWhole old after name file → ⊥
+ungiven_file old new after name bytes file at so is whole =
+    let calls : after ≡ old ++ (pieces_from name 0 so.pieces ++ Piece name at None ∷ []) =
+    is ∙ ap (λ l. l ++ Piece name at None ∷ []) so.calls
+    ∙ append_assoc old (pieces_from name 0 so.pieces) (Piece name at None ∷ []) in
+    pieces_from-not_given name 0 at (length file) so.pieces whole.pieces so.some
+    (append_cancel_left old _ _ (sym calls ∙ from_end whole))

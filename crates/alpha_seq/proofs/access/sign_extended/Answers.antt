@@ -1,7 +1,0 @@
-use Rattle.std.proofs.Common.{arith}
-use Rattle.std.proofs.lemmas.Int.{to_z-of_z}
-use Rattle.alpha_values.proofs.Words.{longword_is, register_word}
-use Rattle.alpha_seq.proofs.access.sign_extended.Goals as goal
-
-pub returns : goal.returns
-returns c = grind (arith, to_z-of_z, longword_is, register_word)

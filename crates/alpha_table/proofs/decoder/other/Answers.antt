@@ -1,8 +1,0 @@
-use Rattle.std.proofs.Common.{arith}
-use Rattle.alpha_table.proofs.DecodedInsns.{no_row}
-use Rattle.alpha_table.proofs.decoder.other.Goals as goal
-
-pub returns-in_default-clause-none : goal.returns-in_default-clause-none
-returns-in_default-clause-none c =
-    let opcode = c.opcode.ensures in
-    no_row c.args.w.0 c.requires (λ e. omega arith) (λ e. omega arith)

@@ -1,8 +1,0 @@
-use Rattle.std.proofs.Common.{arith, ◌∙◌, ap}
-use Rattle.std.proofs.lemmas.Int.{to_z-of_z}
-use Rattle.alpha_values.specs.Numbers.{register_of}
-use Rattle.alpha_values.proofs.Words.{extended_word_is}
-use Rattle.alpha_values.proofs.sums.extended_word.Goals as goal
-
-pub returns : goal.returns
-returns c = c.register.ensures ∙ ap register_of (grind (arith, to_z-of_z, extended_word_is))
