@@ -18,5 +18,5 @@ returns-then-defines_all-clause-value c =
 
 pub returns-clause-value : goal.returns-clause-value
 returns-clause-value c =
-    c.listed.ensures
+    c.new.ensures
     ∙ (c.in_ok-listed.ensures ∙ address_by_own-Knows (found_in c.args.self.now) c.args.located.now c.requires)
