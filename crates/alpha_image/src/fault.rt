@@ -1,8 +1,10 @@
 //! Why an image could not be made.
 
-ghost use Rattle.std.specs.Prelude.{◌≡◌};
-ghost use Rattle.alpha_image.specs.declared.fault.ImageFault.TheVariants.{NoMemory};
+ghost use Rattle.std.specs.Prelude.{◌≡◌, ◌≢◌, IfSome, IfNone};
+ghost use Rattle.alpha_image.specs.ImageField.{field_number};
+ghost use Rattle.alpha_image.specs.declared.fault.ImageFault.TheVariants.{Field, NoMemory};
 
+use crate::ImageField;
 use std::alloc::{AllocError, AllocFailed};
 use thiserror::Error;
 
@@ -33,6 +35,19 @@ pub enum ImageFault {
     /// Memory ran out.
     #[error("out of memory")]
     NoMemory,
+}
+
+impl ImageFault {
+    /// The bad field that it names. `None` where the fault is another one, or no field has the number.
+    pub fn field(&self) -> Option<ImageField>
+        ensures found { IfSome result (λ field. self.now ≡ Field (field_number field)) }
+        ensures none { IfNone result ((field : _) → self.now ≢ Field (field_number field)) }
+    {
+        match *self {
+            ImageFault::Field(number) => ImageField::of(number),
+            _ => None,
+        }
+    }
 }
 
 impl From<AllocError> for ImageFault {
