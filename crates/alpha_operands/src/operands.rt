@@ -8,17 +8,22 @@ use crate::number::number_at;
 use crate::{Half, Number, Piece, Sign, operator, register};
 use alpha_token::{Token, is_label, number};
 use alpha_words::Reg;
+use thiserror::Error;
 
 /// What is wrong with a line, in the order in which it is answered at one column.
-#[derive(Clone, Copy, Debug, PartialEq, Eq)]
+#[derive(Clone, Copy, Debug, PartialEq, Eq, Error)]
 pub enum LineFaultKind {
     /// A byte begins no token.
+    #[error("a byte begins no token")]
     BadToken = 1,
     /// A mnemonic, a directive, a register or an operator that isn't in the tables.
+    #[error("a name is not in the tables")]
     UnknownName,
     /// The tokens are of no pattern, or a label has a wrong form.
+    #[error("the tokens are of no pattern")]
     BadOperands,
     /// A number is outside its range.
+    #[error("a number is outside its range")]
     OutOfRange,
 }
 

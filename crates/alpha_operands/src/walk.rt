@@ -15,9 +15,11 @@ use crate::operands::{NOTHING, fill};
 use crate::piece::same_kind;
 use crate::{LineFaultKind, Operands, Piece, Shape, Sign, operator, register};
 use alpha_token::{Step, Token, TokenKind, next};
+use thiserror::Error;
 
 /// The first fault of the operands of a line.
-#[derive(Clone, Copy, Debug, PartialEq, Eq)]
+#[derive(Clone, Copy, Debug, PartialEq, Eq, Error)]
+#[error("{kind}, {left} bytes before the end of the line")]
 pub struct OperandFault {
     /// How many bytes of the line are left where it stands.
     pub left: usize,

@@ -14,6 +14,7 @@ use crate::head::Head;
 use crate::statement::of_head;
 use alpha_operands::{LineFaultKind, OperandFault, stuck_at};
 use alpha_token::{Step, Token, TokenKind, is_label, next, without_blanks};
+use thiserror::Error;
 
 /// What a line says.
 #[derive(Clone, Copy, Debug)]
@@ -25,7 +26,8 @@ pub struct Item<'a> {
 }
 
 /// The first fault of a line.
-#[derive(Clone, Copy, Debug, PartialEq, Eq)]
+#[derive(Clone, Copy, Debug, PartialEq, Eq, Error)]
+#[error("column {column}: {kind}")]
 pub struct LineFault {
     /// What is wrong.
     pub kind: LineFaultKind,

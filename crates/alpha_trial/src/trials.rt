@@ -16,6 +16,7 @@ use alpha_seq::Machine;
 use alpha_verdict::judge_image;
 use alpha_words::{Completion, NoMemory};
 use std::alloc::Global;
+use thiserror::Error;
 
 // How many units each of the two runs may use.
 const UNITS: u64 = 100_000_000;
@@ -24,11 +25,13 @@ const UNITS: u64 = 100_000_000;
 const ROOM: usize = 8;
 
 /// Why a trial was not written whole.
-#[derive(Clone, Copy, Debug, PartialEq, Eq)]
+#[derive(Clone, Copy, Debug, PartialEq, Eq, Error)]
 pub enum TrialFault {
     /// Memory ran out, and nothing was put.
+    #[error("out of memory")]
     NoMemory,
     /// The sink failed, and a prefix of the report was put.
+    #[error("the report could not be written")]
     Sink,
 }
 
