@@ -3,7 +3,7 @@ use Rattle.std.proofs.Common.{◌≡◌, ◌≢◌, ℕ, true, false, Option, So
 use Rattle.std.specs.Option.{option_map_or}
 use Rattle.alpha_table.specs.declared.columns.InsnKind.{InsnKind}
 use Rattle.alpha_table.specs.declared.columns.InsnKind.TheVariants as kinds
-use Rattle.alpha_table.specs.Class.{Class, operate, trigger, address, barrier}
+use Rattle.alpha_table.specs.Class.{Class, operate, trigger, address}
 use Rattle.alpha_table.specs.Code.{class_kind, kind, trap_rc}
 use Rattle.alpha_trap.specs.Scan.{runs_on, is_straight, is_destination}
 

@@ -176,6 +176,12 @@ scan-at image pc mask to some is = ap (scan_at image.words mask) is ∙ by (mask
     by true t = absurd (some (eqb-true mask 0 t))
     by false t = refl
 
+-- so the greatest place that fits below a report's place is the scan's
+pub walked-scan : (image : Parts) (pc mask to : ℕ) (o : Option ℕ) → mask ≢ 0 → place_or_end image pc ≡ Some to
+    → o ≡ greatest_below (λ at. fits image.words mask at to) to
+    → o ≡ scan image pc mask
+walked-scan image pc mask to o some is walked = walked ∙ sym (scan-at image pc mask to some is)
+
 -- a trigger whose destination is in the mask and is that of no trigger behind it
 pub scan-last : (image : Parts) (pc mask at to rc : ℕ) → place_or_end image pc ≡ Some to → at < to
     → trap_rc (class_at image.words at) ≡ Some rc

@@ -1,13 +1,17 @@
-ghost use Rattle.std.specs.Prelude.{◌≡◌, ◌<◌, Some, None, false, IfOk, IfErr, OnErr, length};
+//! The handler of a late trap, in kernel mode.
+
+ghost use Rattle.std.specs.Prelude.{◌≡◌, ◌+◌, ◌*◌, ◌<◌, ◌^◌, Some, None, false, IfOk, IfErr, OnErr, length};
 ghost use Rattle.alpha_words.specs.Regs.{reg, put};
 ghost use Rattle.alpha_table.specs.declared.columns.InsnKind.TheVariants as kinds;
 ghost use Rattle.alpha_table.specs.Code.{class_at, kind};
 ghost use Rattle.alpha_values.specs.TrapOp.{completed_of};
 ghost use Rattle.alpha_pal.specs.Kernel.{user_regs};
 ghost use Rattle.alpha_values.specs.Source.{source_value};
+ghost use Rattle.alpha_trap.specs.RawCode.{raw_code};
 ghost use Rattle.alpha_trap.specs.Handler.{going_on, handled, handled_at, kernel_after, place_of_trap, trap_in};
 
-use crate::scan::scan_back;
+use crate::scan::scan_code;
+use crate::trap_code::{RawCode, TrapCode};
 use crate::trigger::{Trigger, trigger_of};
 use alpha_image::Image;
 use alpha_pal::Kernel;
@@ -35,7 +39,7 @@ pub struct Lost {
 ///
 /// # Errors
 ///
-/// `Lost` exactly where [`scan_back`] finds nothing for that PC and mask. It leaves the registers, the
+/// `Lost` exactly where [`scan_back`](crate::scan_back) finds nothing for that PC and mask. It leaves the registers, the
 /// frame and the mode, so that a return gives back all that the entry saved.
 pub fn handle(
     image: &Image,
@@ -52,10 +56,56 @@ pub fn handle(
     ensures cause { IfErr result (λ lost. place_of_trap image.now lost ≡ None) }
     ensures same { OnErr result ((kernel.new ≡ kernel.old) × (regs.new ≡ regs.old)) }
 {
+    handle_code(image, kernel, regs, completion)
+}
+
+/// Handles the trap for which the kernel was entered, as [`handle`] does, in words without an image: `base` is the
+/// address of the first one, in bytes, a multiple of 4. The answer is the address to go on at: that behind the
+/// instruction, or by stop the instruction's own, where the user's registers are as they were. The mode is user again.
+///
+/// # Errors
+///
+/// `Lost` exactly where [`scan_words`](crate::scan_words) finds nothing for that PC and mask. It leaves the registers,
+/// the frame and the mode.
+pub fn handle_words(
+    words: &[u32],
+    base: u64,
+    kernel: &mut Kernel,
+    regs: &mut RegFile,
+    completion: Completion,
+) -> Result<u64, Lost>
+    requires { kernel.old.user ≡ false }
+    ensures ok { IfOk result (λ pc. handled (raw_code words.now base) completion kernel.old regs.old
+        ≡ Some (going_on pc regs.new)) }
+    ensures state { IfOk result (λ pc.
+        kernel.new ≡ kernel_after kernel.old (going_on pc regs.new)) }
+    ensures refused { IfErr result (λ lost. lost ≡ trap_in kernel.old regs.old) }
+    ensures cause { IfErr result (λ lost. place_of_trap (raw_code words.now base) lost ≡ None) }
+    ensures same { OnErr result ((kernel.new ≡ kernel.old) × (regs.new ≡ regs.old)) }
+{
+    handle_code(&RawCode { words, base }, kernel, regs, completion)
+}
+
+// Handles the trap for which the kernel was entered, in any code.
+pub(crate) fn handle_code<C: TrapCode>(
+    code: &C,
+    kernel: &mut Kernel,
+    regs: &mut RegFile,
+    completion: Completion,
+) -> Result<u64, Lost>
+    requires { kernel.old.user ≡ false }
+    ensures ok { IfOk result (λ pc.
+        handled (C.parts code.now) completion kernel.old regs.old ≡ Some (going_on pc regs.new)) }
+    ensures state { IfOk result (λ pc.
+        kernel.new ≡ kernel_after kernel.old (going_on pc regs.new)) }
+    ensures refused { IfErr result (λ lost. lost ≡ trap_in kernel.old regs.old) }
+    ensures cause { IfErr result (λ lost. place_of_trap (C.parts code.now) lost ≡ None) }
+    ensures same { OnErr result ((kernel.new ≡ kernel.old) × (regs.new ≡ regs.old)) }
+{
     let trap = trap_in(kernel, regs);
-    match scan_back(image, trap.trap_pc, trap.mask) {
+    match scan_code(code, trap.trap_pc, trap.mask) {
         Some(place) => {
-            let next = end_trap(image, place, kernel, regs, completion);
+            let next = end_trap(code, place, kernel, regs, completion);
             kernel.set_pc(next);
             Ok(kernel.rti(regs))
         }
@@ -64,7 +114,7 @@ pub fn handle(
 }
 
 // The trap for which the kernel was entered.
-pub(crate) fn trap_in(kernel: &Kernel, regs: &RegFile) -> Lost
+fn trap_in(kernel: &Kernel, regs: &RegFile) -> Lost
     requires { kernel.now.user ≡ false }
     ensures value { result ≡ trap_in kernel.now regs.now }
     ensures size { length regs.now ≡ 32 }
@@ -77,27 +127,31 @@ pub(crate) fn trap_in(kernel: &Kernel, regs: &RegFile) -> Lost
 }
 
 // Ends a trap of the instruction at a place, and answers the PC to go on at.
-fn end_trap(
-    image: &Image,
-    place: u32,
+fn end_trap<C: TrapCode>(
+    code: &C,
+    place: usize,
     kernel: &mut Kernel,
     regs: &mut RegFile,
     completion: Completion,
 ) -> u64
     requires mode { kernel.old.user ≡ false }
-    requires place { place < length image.now.words }
-    requires trigger { kind (class_at image.now.words place) ≡ Some kinds.Trigger }
+    requires place { place < length (C.parts code.now).words }
+    requires room { (C.parts code.now).code_base + 4 * place + 4 < 2 ^ 64 }
+    requires trigger { kind (class_at (C.parts code.now).words place) ≡ Some kinds.Trigger }
     ensures value { going_on result (user_regs kernel.new regs.new)
-        ≡ handled_at image.now completion (user_regs kernel.old regs.old) place }
+        ≡ handled_at (C.parts code.now) completion (user_regs kernel.old regs.old) place }
     ensures mode { kernel.new.user ≡ false }
     ensures status { kernel.new.frame.ps ≡ kernel.old.frame.ps }
     ensures size { length regs.new ≡ length regs.old }
 {
-    let at = image.code_base() + 4 * u64::from(place);
+    let at = code.base() + 4 * place as u64;
     if completion == Completion::Stop {
         return at;
     }
-    match trigger_of(&image.insn_at(place)) {
+    let Some(insn) = code.insn_if_any(place) else {
+        unreachable!()
+    };
+    match trigger_of(&insn) {
         Some(trigger) => complete(&trigger, kernel, regs, completion),
         None => unreachable!(),
     }
@@ -106,12 +160,7 @@ fn end_trap(
 
 // Completes an instruction from the user's registers, into the user's destination.
 #[tactic(auto, using(crate::proofs::HandlerEffect::length_live))]
-pub(crate) fn complete(
-    trigger: &Trigger,
-    kernel: &mut Kernel,
-    regs: &mut RegFile,
-    completion: Completion,
-)
+fn complete(trigger: &Trigger, kernel: &mut Kernel, regs: &mut RegFile, completion: Completion)
     requires { kernel.old.user ≡ false }
     ensures user { let user = user_regs kernel.old regs.old in
         let t = trigger.now in

@@ -17,8 +17,9 @@
 //!
 //! `specs/Scan.antt` says what the scan finds as a function, and `specs/Finds.antt` as a relation;
 //! `specs/Handler.antt` says what the handler leaves, with the registers of `specs/Completed.antt`; for code without an
-//! image they go by `specs/RawCode.antt`. `src/scan.rt`, `src/handler.rt`, `src/words.rt` and `src/reports.rt` have
-//! the calls, `src/trigger.rt` what they read of an instruction. `proofs/ScanSteps.antt` follows
+//! image they go by `specs/RawCode.antt`. `src/scan.rt`, `src/handler.rt` and `src/reports.rt` have
+//! the calls, one body for both kinds of code; `src/trap_code.rt` has what they read of code, `src/trigger.rt` what they
+//! read of an instruction. `proofs/ScanSteps.antt` follows
 //! the walk down word by word, `ScanRelation.antt` ties the function to the relation, `GreatestInRange.antt` and
 //! `ClassTests.antt` have the tests of places and of words, `HandlerEffect.antt` the handler's frame.
 #![tactic(auto)]
@@ -27,11 +28,10 @@ mod handler;
 mod laws;
 mod reports;
 mod scan;
+mod trap_code;
 mod trigger;
-mod words;
 
-pub use handler::{Lost, handle};
+pub use handler::{Lost, handle, handle_words};
 pub use laws::{laws_of_reports, laws_of_scans};
 pub use reports::{report, report_words};
-pub use scan::scan_back;
-pub use words::{handle_words, scan_words};
+pub use scan::{scan_back, scan_words};
