@@ -8,7 +8,7 @@ use Rattle.alpha_words.specs.Digits.{low_bytes, little}
 use Rattle.alpha_words.specs.Regs.{reg, put}
 use Rattle.alpha_words.specs.declared.PalCall.{PalCall}
 use Rattle.alpha_words.specs.declared.PalCall.TheVariants.{Bpt, Bugchk, Callsys, Imb, Rdunique, Wrunique, Gentrap}
-use Rattle.alpha_words.proofs.RegLemmas.{length-put}
+use Rattle.alpha_words.proofs.RegLemmas.{length-put, reg-put_other}
 use Rattle.alpha_table.specs.declared.op.Op.{Op}
 use Rattle.alpha_table.specs.declared.op.Cond.{Cond}
 use Rattle.alpha_table.specs.declared.op.TrapOp.{TrapOp}
@@ -39,7 +39,7 @@ use Rattle.alpha_seq.specs.Step.{next_pc, onward, setting, went, ended, logging,
 use Rattle.alpha_seq.specs.Step.{unless, accessed, loaded, lock_block, matches, conditional, branch_target, returned}
 use Rattle.alpha_seq.specs.Step.{step}
 use Rattle.alpha_restart.specs.Columns.{answer_registers, MayWrite, AgreeFor, GoAlike}
-use Rattle.alpha_restart.proofs.Registers.{has_cases, reg-put_other, reg-put_unset, reg-put_both, reg-past}
+use Rattle.alpha_restart.proofs.Registers.{has_cases, reg-put_unset, reg-put_both, reg-past}
 use Rattle.alpha_restart.proofs.SourcesAlike.{counts_first, counts_second, counts_moved, counts_source, source_used}
 use Rattle.alpha_restart.proofs.SourcesAlike.{same_result}
 

@@ -11,25 +11,6 @@ pub has_cases : (o : Option ℕ) (r : ℕ) → (o ≡ Some r) ⊎ (o ≢ Some r)
 has_cases None r = inr (λ e. cc)
 has_cases (Some x) r = ⊎_elim (λ (e : x ≡ r). inl (ap Some e)) (λ (n : x ≡ r → ⊥). inr (λ e. n cc)) (cases_eq x r)
 
--- a write of one register leaves the others
-other_by : (file : List ℕ) (r x v : ℕ) (b : Bool) → x ≢ r → get_or (cond b file (set file r v)) x 0 ≡ get_or file x 0
-other_by file r x v true apart = refl
-other_by file r x v false apart = get_or-set_other file r x v 0 apart
-
-pub reg-put_other : (file : List ℕ) (r x v : ℕ) → x ≢ r → reg (put file r v) x ≡ reg file x
-unfolding reg put
-reg-put_other file r x v apart = other_by file r x v (eqb r 31) apart
-
--- a register below 31 is written
-same_by : (file : List ℕ) (r v : ℕ) (b : Bool) → eqb r 31 ≡ b → r < 31 → length file ≡ 32
-    → get_or (cond b file (set file r v)) r 0 ≡ v
-same_by file r v true e small size = let same = eqb-true r 31 e in absurd (omega arith)
-same_by file r v false e small size = get_or-set_same file r v 0 (omega arith)
-
-pub reg-put_same : (file : List ℕ) (r v : ℕ) → r < 31 → length file ≡ 32 → reg (put file r v) r ≡ v
-unfolding reg put
-reg-put_same file r v small size = same_by file r v (eqb r 31) refl small size
-
 -- what a word sets is what its write changes
 unset_by : (file : List ℕ) (r x v : ℕ) (b : Bool) → cond b None (Some r) ≢ Some x
     → get_or (cond b file (set file r v)) x 0 ≡ get_or file x 0

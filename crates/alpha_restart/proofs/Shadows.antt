@@ -4,7 +4,7 @@ use Rattle.std.proofs.Common.{None, refl, sym, ap, ◌∙◌, ⊎_elim, inl, inr
 use Rattle.std.proofs.lemmas.Bool.{cases_eq, cases_lt}
 use Rattle.alpha_words.specs.declared.Completion.{Completion}
 use Rattle.alpha_words.specs.Regs.{reg, put}
-use Rattle.alpha_words.proofs.RegLemmas.{length-put}
+use Rattle.alpha_words.proofs.RegLemmas.{length-put, reg-put_other, reg-put_same}
 use Rattle.alpha_table.specs.declared.columns.InsnKind.{InsnKind}
 use Rattle.alpha_table.specs.declared.columns.InsnKind.TheVariants as kinds
 use Rattle.alpha_table.specs.declared.columns.MemAccess.{MemAccess}
@@ -19,7 +19,7 @@ use Rattle.alpha_restart.specs.Safe.{Shadowed, IsSafe, steady_kind, Steady, is_s
 use Rattle.alpha_restart.specs.Match.{Dead, Alike}
 use Rattle.alpha_restart.specs.Trigger.{Trigger, trigger_word, trigger_value}
 use Rattle.alpha_restart.specs.Shadow.{Shadow}
-use Rattle.alpha_restart.proofs.Registers.{has_cases, reg-past, reg-put_other, reg-put_same, reg-put_unset, counted_set}
+use Rattle.alpha_restart.proofs.Registers.{has_cases, reg-past, reg-put_unset, counted_set}
 use Rattle.alpha_restart.proofs.SourcesAlike.{counts_first, source_used, counts_source, set_not_31}
 use Rattle.alpha_restart.proofs.RegistersAlike.{dead_on, dead_more, steady_more}
 use Rattle.alpha_restart.proofs.BytesAlike.{SameUnset}

@@ -4,7 +4,7 @@ use Rattle.std.proofs.Common.{List, [], ◌∷◌, length, Option, Some, refl, s
 use Rattle.std.proofs.Common.{length-append, add-one, arith}
 use Rattle.std.proofs.lemmas.Bool.{eq-eqb, and_parts}
 use Rattle.alpha_words.specs.Regs.{reg, put}
-use Rattle.alpha_words.proofs.RegLemmas.{length-put}
+use Rattle.alpha_words.proofs.RegLemmas.{length-put, reg-put_other, reg-put_same}
 use Rattle.alpha_table.specs.declared.rows.MemOp.{MemOp}
 use Rattle.alpha_table.specs.Class.{Class, address}
 use Rattle.alpha_table.specs.Code.{class_at}
@@ -16,7 +16,6 @@ use Rattle.alpha_seq.specs.Run.{put as put_by, output, given, Run, is_over, exte
 use Rattle.alpha_seq.proofs.RunSequence.{advance-going}
 use Rattle.alpha_run.proofs.StepRows.{output-append}
 use Rattle.alpha_imprecise.specs.Step.{address_at}
-use Rattle.alpha_restart.proofs.Registers.{reg-put_other, reg-put_same}
 use Rattle.alpha_restart.proofs.CodeWordBounds.{class_within}
 use Rattle.alpha_restart.proofs.ImagePlaces.{next_class-class_at, next_address}
 use Rattle.alpha_trial.specs.Words.{program_words, trial_image}

@@ -5,9 +5,10 @@
 //! - [`Reg`] is one of the 32 integer registers. Register 31 reads as 0 and ignores writes.
 //! - [`RegSet`] is a set of registers below 31: register 31 never is a member.
 //! - [`RegFile`] has the values of the 32 registers, the last one 0.
+//! - [`laws_of_registers`] says what is read behind a write.
 //! - [`Level`], [`Completion`], [`PalCall`] and [`NoMemory`] are words that many crates share.
 //!
-//! `word.rt`, `reg.rt`, `set.rt` and `file.rt` have one of the first four each, and this file the
+//! `word.rt`, `reg.rt`, `set.rt` and `file.rt` have one of the first four each, `laws.rt` the laws, and this file the
 //! rest. `specs/Field.antt` says what a bit field is, `specs/Regs.antt` what a register set and a
 //! register file are, `specs/Levels.antt` how levels are numbered, and `specs/Digits.antt` has numbers as
 //! lists of digits, bits and bytes.
@@ -17,11 +18,13 @@ ghost use Rattle.std.specs.Prelude.{◌≡◌, ◌≢◌, ◌≤◌, ◌↔◌, 
 ghost use Rattle.alpha_words.specs.Levels.{level_number};
 
 mod file;
+mod laws;
 mod reg;
 mod set;
 mod word;
 
 pub use file::RegFile;
+pub use laws::laws_of_registers;
 pub use reg::Reg;
 pub use set::RegSet;
 use std::alloc::{AllocError, AllocFailed};
