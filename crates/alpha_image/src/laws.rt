@@ -14,7 +14,7 @@ ghost use Rattle.alpha_image.specs.ImageFault.{first_fault};
 ghost use Rattle.alpha_image.specs.Tells.{parts_fault};
 
 /// Bytes have no first fault exactly where they are the spelling of a good image, and then they are the
-/// spelling of one image alone.
+/// spelling of one image alone. Call it in a body whose proof needs one of them.
 pub fn laws_of_spelling()
     ensures spelled { (bytes : List ℕ) → All IsByte bytes →
         (first_fault bytes ≡ None) ↔ ((p : Parts) × IsImage p × (bytes ≡ image_spelling p)) }
@@ -23,6 +23,7 @@ pub fn laws_of_spelling()
 {}
 
 /// The code words stand one after the other from the code base on, and the entry is one of them.
+/// Call it in a body whose proof needs one of them.
 pub fn laws_of_places()
     ensures places { (p : Parts) → IsImage p → (address n : ℕ) →
         (place_of p address ≡ Some n) ↔ ((n < length p.words) × (address ≡ p.code_base + 4 * n)) }
@@ -30,6 +31,7 @@ pub fn laws_of_places()
 {}
 
 /// The shares of the segments, one behind the other, are all data bytes.
+/// Call it in a body whose proof needs one of them.
 pub fn laws_of_pieces()
     ensures bytes { (p : Parts) → IsImage p → flat_map (λ piece. piece.bytes) (pieces p) ≡ p.bytes }
     ensures count { (p : Parts) → length (pieces p) ≡ length p.segments }
@@ -37,6 +39,7 @@ pub fn laws_of_pieces()
 
 /// The test of each field passes exactly where its rule holds, and no field is bad exactly where all
 /// rules hold. So parts have no first fault exactly where they are a good image.
+/// Call it in a body whose proof needs one of them.
 pub fn laws_of_fields()
     ensures tests { (n : Numbers) → TestsDecide n }
     ensures fields { (n : Numbers) → (least_bad_field n ≡ None) ↔ FieldsFit n }

@@ -8,6 +8,7 @@ ghost use Rattle.alpha_mem.specs.Memory.{bytes_at, byte_at, write_bytes, IsFree,
 
 /// The laws of writes: they leave each block where it lies, and change exactly the bytes that
 /// they name. Two that follow one another are one, and what was written is read back.
+/// Call it in a body whose proof needs one of them.
 pub fn laws_of_writes()
     ensures shapes { (m : List Block) (a : ℕ) (xs : List ℕ)
         → shapes (write_bytes m a xs) ≡ shapes m }
@@ -27,7 +28,7 @@ pub fn laws_of_writes()
 {}
 
 /// The laws of reads: a memory is where its blocks lie and its bytes, and a range is its bytes one at
-/// a time.
+/// a time. Call it in a body whose proof needs one of them.
 pub fn laws_of_reads()
     ensures same { (m n : List Block) → shapes m ≡ shapes n → IsLayout (shapes m)
         → ((x : ℕ) → byte_at m x ≡ byte_at n x) → m ≡ n }
@@ -43,7 +44,7 @@ pub fn laws_of_reads()
 {}
 
 /// The laws of numbers: n bytes of memory read as a number below 256 ^ n, and the n lowest bytes of a
-/// number are n bytes, which read as the number modulo 256 ^ n.
+/// number are n bytes, which read as the number modulo 256 ^ n. Call it in a body whose proof needs one of them.
 pub fn laws_of_numbers()
     ensures read { (m : List Block) (a n : ℕ) → IsMemory m → IsTrue (within (shapes m) Load a n)
         → little (bytes_at m a n) < 256 ^ n }
@@ -53,7 +54,7 @@ pub fn laws_of_numbers()
 
 /// The laws of accesses of n bytes: an aligned one whose bytes all lie in blocks has them in one
 /// block, if n divides 16, as the size of each load and store does. So one without a fault lies in
-/// one block. It ends at or below 2 ^ 30, whatever n is.
+/// one block. It ends at or below 2 ^ 30, whatever n is. Call it in a body whose proof needs one of them.
 pub fn laws_of_accesses()
     ensures one_block { (ss : List Shape) (intent : Intent) (a n : ℕ) → IsLayout ss
         → 16 % n ≡ 0 → a % n ≡ 0 → each_within ss intent a n ≡ within ss intent a n }
@@ -64,7 +65,7 @@ pub fn laws_of_accesses()
 {}
 
 /// The laws of ranges within one block: a store's are a load's too, each part of one is one, and one
-/// of some bytes ends at or below 2 ^ 30.
+/// of some bytes ends at or below 2 ^ 30. Call it in a body whose proof needs one of them.
 pub fn laws_of_ranges()
     ensures readable { (ss : List Shape) (a n : ℕ) → IsTrue (within ss Store a n)
         → IsTrue (within ss Load a n) }
@@ -75,6 +76,7 @@ pub fn laws_of_ranges()
 {}
 
 /// The law of adding: addresses that are free and that a new block doesn't take stay free.
+/// Call it in a body whose proof needs one of them.
 pub fn laws_of_adding()
     ensures { (m : List Block) (first : ℕ) (xs : List ℕ) (zeroed : ℕ) (writable : Bool) (a n : ℕ)
         → IsFree (shapes m) a n → (a + n ≤ first) ⊎ (first + length xs + zeroed ≤ a)

@@ -1,6 +1,8 @@
 //! The memory of regions: loads and stores that fault exactly as defined, and change exactly the
 //! bytes that they name.
 //!
+//! Comments call the Alpha Architecture Handbook, version 4, the Architecture Handbook.
+//!
 //! - [`Memory`] is a list of regions of bytes, each at an address of its own. Every region may be
 //!   read, and the writable ones may be written. Loads and stores are aligned and little-endian
 //!   (Architecture Handbook, sections 2.1 and 4.2); ranges of any length are read and written by

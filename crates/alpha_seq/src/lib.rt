@@ -1,5 +1,7 @@
 //! The sequential machine: it runs programs exactly, one word a step.
 //!
+//! Comments call the Alpha Architecture Handbook, version 4, the Architecture Handbook.
+//!
 //! - [`Machine`] is the machine, all parts of which are open. [`Machine::new`] makes it in the state at the start.
 //! - [`Machine::step`] makes one step, [`Machine::step_by`] the same for a caller that has looked at the instruction,
 //!   and [`Machine::next`] says what that step would do, as a [`Next`].

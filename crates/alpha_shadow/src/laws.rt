@@ -4,7 +4,7 @@ ghost use Rattle.alpha_shadow.specs.Broken.{IsBroken, IsAccepted};
 ghost use Rattle.alpha_shadow.specs.Least.{IsLeastBroken};
 
 /// The laws of verdicts, for every list of words: each place is broken under a condition or isn't,
-/// and the list is accepted or has a least broken place.
+/// and the list is accepted or has a least broken place. Call it in a body whose proof needs one of them.
 pub fn laws_of_verdicts()
     ensures decided { (code : List ℕ) (trigger at : ℕ) (condition : _)
         → IsBroken code trigger at condition ⊎ ¬ IsBroken code trigger at condition }

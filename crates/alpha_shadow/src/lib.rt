@@ -2,6 +2,8 @@
 //! is reported late, or names the least place that breaks a shadow (Architecture Handbook,
 //! arithmetic trap completion; the exact form is this project's own).
 //!
+//! Comments call the Alpha Architecture Handbook, version 4, the Architecture Handbook.
+//!
 //! - [`Condition`] is one of the nine conditions, C1 to C9, and [`Broken`] a broken place.
 //! - [`judge`] is the verdict on the instructions that a [`Fetch`] gives. It looks at each word once at
 //!   most, in their order, and takes no memory. A [`Checker`] gives one verdict after another, in the

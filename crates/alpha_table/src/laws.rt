@@ -13,6 +13,7 @@ ghost use Rattle.alpha_table.specs.Columns.{level_of};
 /// The laws of the table. An instruction has exactly one word of 32 bits; a word has one
 /// instruction at most, whose fields are within its row, and that is the one that look-ups in the
 /// rows find. So [`decode`](crate::decode) and [`encode`](crate::encode) undo each other.
+/// Call it in a body whose proof needs one of them.
 pub fn laws_of_the_table()
     ensures some_word { (i : _) → IsInsn i → (w : ℕ) × (w < 2 ^ 32) × Row w i }
     ensures encoded { (i : _) → IsInsn i → (encoded i < 2 ^ 32) × Row (encoded i) i }
@@ -22,14 +23,14 @@ pub fn laws_of_the_table()
     ensures looked_up { (w : ℕ) (i : _) → Row w i ↔ (decoded w ≡ Some i) }
 {}
 
-/// No two rows have one name.
+/// No two rows have one name. Call it in a body whose proof needs one of them.
 pub fn laws_of_names()
     ensures { (m n : _) → name_of m ≡ name_of n → m ≡ n }
 {}
 
 /// The class that the tables of `specs/Words.antt` give a word, by which the machines and the checker
 /// go, is that of the instruction which [`decode`](crate::decode) finds, and none where there is
-/// none; and so is its least level.
+/// none; and so is its least level. Call it in a body whose proof needs one of them.
 pub fn laws_of_classes()
     ensures word { (w : ℕ) → class_in w ≡ option_map class_of (decoded w) }
     ensures place { (code : List ℕ) (k : ℕ)

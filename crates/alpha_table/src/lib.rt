@@ -3,6 +3,8 @@
 //! chapter 4 on instructions; integer instructions with the byte and word extension and the count
 //! extension, and seven of the OSF/1 PALcode calls).
 //!
+//! Comments call the Alpha Architecture Handbook, version 4, the Architecture Handbook.
+//!
 //! - [`Form`] is an instruction with its operands, by format. [`Insn`] is one whose fields are
 //!   within its row of the table: it is held as its row and its word, in eight bytes, and
 //!   [`Insn::form`] cuts out those fields that its caller matches. [`Insn::memory`], [`Insn::branch`]

@@ -76,7 +76,8 @@ pub enum JumpKind {
     JsrCoroutine,
 }
 
-/// A barrier among the miscellaneous instructions (Architecture Handbook, section 4.11).
+/// A barrier among the miscellaneous instructions (Architecture Handbook, section 4.11). It names no register: its one
+/// word has R31 as Ra and Rb. So `trapb` is 63ff0000, and 60000000, as GNU's assembler writes it, is no instruction.
 #[derive(Clone, Copy, Debug, PartialEq, Eq)]
 pub enum MiscOp {
     /// Trap barrier.

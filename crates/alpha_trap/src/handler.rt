@@ -39,8 +39,8 @@ pub struct Lost {
 ///
 /// # Errors
 ///
-/// `Lost` exactly where [`scan_back`](crate::scan_back) finds nothing for that PC and mask. It leaves the registers, the
-/// frame and the mode, so that a return gives back all that the entry saved.
+/// `Lost` exactly where [`scan_back`](crate::scan_back) finds nothing for that PC and mask. It leaves the registers,
+/// the frame and the mode, so that a return gives back all that the entry saved.
 pub fn handle(
     image: &Image,
     kernel: &mut Kernel,

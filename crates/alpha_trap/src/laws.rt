@@ -12,7 +12,7 @@ ghost use Rattle.alpha_trap.specs.Handler.{handled, reported};
 
 /// The scan as a function is the scan as a relation, so it finds one place at most. It finds a trigger
 /// that a program ran straight on from, if the trigger's destination is in the mask and is that of no
-/// trigger behind it.
+/// trigger behind it. Call it in a body whose proof needs one of them.
 pub fn laws_of_scans()
     ensures fits { (code : List ℕ) (mask at to : ℕ) → at < to
         → IsTrue (fits code mask at to) ↔ Fits code mask at to }
@@ -27,7 +27,7 @@ pub fn laws_of_scans()
 {}
 
 /// Directly after an arithmetic entry the handler leaves what a report at the given address with the
-/// given mask leaves of the registers before the entry.
+/// given mask leaves of the registers before the entry. Call it in a body whose proof needs one of them.
 pub fn laws_of_reports()
     ensures { (image : Parts) (completion : Completion) (pc mask : ℕ) (regs : List ℕ)
         → length regs ≡ 32 → mask < 2 ^ 31

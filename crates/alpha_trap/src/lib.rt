@@ -2,6 +2,8 @@
 //! overflowed, its result completed, and the PC to go on at (Architecture Handbook, arithmetic trap
 //! completion).
 //!
+//! Comments call the Alpha Architecture Handbook, version 4, the Architecture Handbook.
+//!
 //! - [`scan_back`] finds the instruction: the greatest place below the trap PC that has `/V`, so that each
 //!   register of the mask is the destination of it or of a `/V` word behind it, with no barrier and no turn
 //!   between. The trap PC may be one past the last word.
@@ -17,10 +19,9 @@
 //!
 //! `specs/Scan.antt` says what the scan finds as a function, and `specs/Finds.antt` as a relation;
 //! `specs/Handler.antt` says what the handler leaves, with the registers of `specs/Completed.antt`; for code without an
-//! image they go by `specs/RawCode.antt`. `src/scan.rt`, `src/handler.rt` and `src/reports.rt` have
-//! the calls, one body for both kinds of code; `src/trap_code.rt` has what they read of code, `src/trigger.rt` what they
-//! read of an instruction. `proofs/ScanSteps.antt` follows
-//! the walk down word by word, `ScanRelation.antt` ties the function to the relation, `GreatestInRange.antt` and
+//! image they go by `specs/RawCode.antt`. `src/scan.rt`, `src/handler.rt` and `src/reports.rt` have the calls, each
+//! with one body for both kinds of code; `src/trap_code.rt` has what they read of code, `src/trigger.rt` what they read
+//! of an instruction. `proofs/ScanSteps.antt` follows the walk down word by word, `ScanRelation.antt` ties the function to the relation, `GreatestInRange.antt` and
 //! `ClassTests.antt` have the tests of places and of words, `HandlerEffect.antt` the handler's frame.
 #![tactic(auto)]
 

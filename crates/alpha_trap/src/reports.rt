@@ -13,10 +13,10 @@ use alpha_pal::Kernel;
 use alpha_words::{Completion, Reg, RegFile, RegSet};
 
 /// Reports a trap at an address, with the registers that it may have spoilt: enters the kernel
-/// ([`Kernel::enter_arith`]), has [`handle`](crate::handle) deal with the trap, and is in user mode again. The registers are
-/// those of the program, which runs in user mode, and `pc` is an address in bytes above the instruction's. The answer is
-/// the address to go on at, and the registers are as the trap's completion leaves them: by stop it is the instruction's
-/// own address, and they are as they were.
+/// ([`Kernel::enter_arith`]), has [`handle`](crate::handle) deal with the trap, and is in user mode again. The
+/// registers are those of the program, which runs in user mode, and `pc` is an address in bytes above the
+/// instruction's. The answer is the address to go on at, and the registers are as the trap's completion leaves them: by
+/// stop it is the instruction's own address, and they are as they were.
 ///
 /// # Errors
 ///

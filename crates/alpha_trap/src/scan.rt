@@ -13,8 +13,9 @@ use alpha_words::RegSet;
 
 /// The place of the instruction that made a trap, by the PC and the registers of its report: the greatest place below
 /// the trap PC that has `/V`, so that every register of the mask is the destination of it or of a `/V` word between,
-/// and no barrier and no turn stands from it on (Architecture Handbook, arithmetic trap completion). `None` where there is none, for no registers, and for a trap PC that is neither the address of a
-/// code word nor the address behind the last one.
+/// and no barrier and no turn stands from it on (Architecture Handbook, arithmetic trap completion). `None` where there
+/// is none, for no registers, and for a trap PC that is neither the address of a code word nor the address behind the
+/// last one.
 pub fn scan_back(image: &Image, trap_pc: u64, mask: RegSet) -> Option<u32>
     ensures value { result ≡ scan image.now trap_pc mask }
     ensures found { IfSome result (λ place. Finds image.now trap_pc mask place) }

@@ -17,7 +17,7 @@ ghost use Rattle.alpha_values.specs.Lists.{inverted, and_of, or_of, xor_of, byte
 ghost use Rattle.alpha_values.specs.Lists.{high_placed, cleared, low_cleared, high_cleared, on_lists};
 
 /// The laws of results: each fits a register. Quadword sums, differences and products are those of
-/// the unsigned operands modulo 2^64.
+/// the unsigned operands modulo 2^64. Call it in a body whose proof needs one of them.
 pub fn laws_of_results()
     ensures bound { (level : _) (op : _) (a b old : ℕ) → a < 2 ^ 64 → b < 2 ^ 64 → old < 2 ^ 64
         → result_of level op a b old < 2 ^ 64 }
@@ -30,6 +30,7 @@ pub fn laws_of_results()
 /// The laws of completion: an instruction overflows exactly where its exact result lies outside the
 /// signed range of its size. Each completed value fits a register. Completed by wrap or stop it is
 /// the result of [`operate_at`](crate::operate_at), and without an overflow it is the exact result.
+/// Call it in a body whose proof needs one of them.
 pub fn laws_of_completion()
     ensures range { (op : _) (a b : ℕ)
         → Overflows op a b ↔ ¬ FitsSigned (size_of op) (exact op a b) }
@@ -43,7 +44,7 @@ pub fn laws_of_completion()
 
 /// The laws of lists: of registers, logic is what it does to each bit, and the byte forms, which shift
 /// and clear by a number of marks, are what they do to a list of bytes; so the result of each operate
-/// instruction may be read either way.
+/// instruction may be read either way. Call it in a body whose proof needs one of them.
 pub fn laws_of_lists()
     ensures conjunction { (a b : ℕ) → a < 2 ^ 64 → b < 2 ^ 64
         → bit_and a b ≡ and_of (bits_of a) (bits_of b) }
@@ -75,6 +76,7 @@ pub fn laws_of_lists()
 /// The laws of addresses: each fits a register. Of two accesses by one base that both lie in memory,
 /// below 2 ^ 30, the spans meet where both touch a byte; and where their spans meet they touch one,
 /// if neither clears bits of its address. Spans meet where they have a byte in common.
+/// Call it in a body whose proof needs one of them.
 pub fn laws_of_addresses()
     ensures bound { (base : ℕ) (disp : ℤ) → address_of base disp < 2 ^ 64 }
     ensures high_bound { (base : ℕ) (disp : ℤ) → high_address_of base disp < 2 ^ 64 }

@@ -2,6 +2,8 @@
 //! which conditions hold, and the addresses that LDA, LDAH and the accesses to memory compute.
 //! No call takes memory. A register is a `u64`; signed numbers stand in it in two's complement.
 //!
+//! Comments call the Alpha Architecture Handbook, version 4, the Architecture Handbook.
+//!
 //! - [`operate_at`] is the result of each instruction at a level, from Ra, Rb or the literal, and
 //!   what the destination had; a `/V` row gives the wrapped result. [`operate`] is that of level one, and [`outcome`]
 //!   is `None` where a `/V` row overflows.

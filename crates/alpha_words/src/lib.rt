@@ -1,6 +1,8 @@
 //! The machine's smallest parts: instruction words and their fields, registers, and sets and
 //! files of registers.
 //!
+//! Comments call the Alpha Architecture Handbook, version 4, the Architecture Handbook.
+//!
 //! - [`Word`] is an instruction word. Each reader gives one of its bit fields.
 //! - [`Reg`] is one of the 32 integer registers. Register 31 reads as 0 and ignores writes.
 //! - [`RegSet`] is a set of registers below 31: register 31 never is a member.
