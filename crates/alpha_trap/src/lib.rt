@@ -21,8 +21,9 @@
 //! `specs/Handler.antt` says what the handler leaves, with the registers of `specs/Completed.antt`; for code without an
 //! image they go by `specs/RawCode.antt`. `src/scan.rt`, `src/handler.rt` and `src/reports.rt` have the calls, each
 //! with one body for both kinds of code; `src/trap_code.rt` has what they read of code, `src/trigger.rt` what they read
-//! of an instruction. `proofs/ScanSteps.antt` follows the walk down word by word, `ScanRelation.antt` ties the function to the relation, `GreatestInRange.antt` and
-//! `ClassTests.antt` have the tests of places and of words, `HandlerEffect.antt` the handler's frame.
+//! of an instruction. `proofs/ScanSteps.antt` follows the walk down word by word, `ScanRelation.antt` ties the function
+//! to the relation, `GreatestInRange.antt` and `ClassTests.antt` have the tests of places and of words,
+//! `HandlerEffect.antt` the handler's frame.
 #![tactic(auto)]
 
 mod handler;
