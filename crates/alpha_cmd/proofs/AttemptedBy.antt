@@ -3,7 +3,7 @@ use Rattle.std.proofs.Common.{◌≡◌, ◌≢◌, ◌⊎◌, ◌∙◌, ℕ, B
 use Rattle.std.proofs.Common.{subst, inl, inr, arith}
 use Rattle.alpha_io.specs.Faults.{Faulted, NoFault}
 use Rattle.alpha_trap.specs.declared.handler.Lost.{Lost}
-use Rattle.alpha_request.specs.Command.{Command, of_image, run, imprecise}
+use Rattle.alpha_request.specs.Command.{Command, of_image, imprecise}
 use Rattle.alpha_request.specs.Origin.{Origin}
 use Rattle.alpha_request.specs.declared.options.RunOptions.{RunOptions}
 use Rattle.alpha_request.specs.Asked.{asked}

@@ -17,7 +17,7 @@ use Rattle.alpha_request.proofs.AskedBy.{asked_rows}
 use Rattle.alpha_request.proofs.PlainWords.{plain_check, plain_run, plain_imprecise}
 use Rattle.alpha_cmd.specs.declared.decision.Decision.{Decision}
 use Rattle.alpha_cmd.specs.declared.status.Status.{Status}
-use Rattle.alpha_cmd.specs.declared.status.Status.TheVariants.{Done, SinkFault, NoMemory}
+use Rattle.alpha_cmd.specs.declared.status.Status.TheVariants.{Done, ShelfFault, SinkFault, NoMemory}
 use Rattle.alpha_cmd.specs.Status.{class_of}
 use Rattle.alpha_cmd.specs.Drawn.{but_drawn}
 use Rattle.alpha_cmd.specs.Alike.{Alike}
@@ -110,11 +110,19 @@ module _ (status decided : Status) (is : (status ≡ SinkFault) ⊎ (status ≡ 
   either P sink h =
       ⊎_elim (λ (e : status ≡ SinkFault). subst P (sym e) (sink h)) (λ (e : status ≡ decided). subst P (sym e) h) is
 
-  pub SparesFiles-decided : (words : List (List ℕ)) (old new : Files) → SparesFiles words decided old new
-      → SparesFiles words status old new
-  SparesFiles-decided words old new (inl h) = inl h
-  SparesFiles-decided words old new (inr (command, asks, h)) =
-      inr (command, asks, either (λ s. Spares command s old new) (Spares-sink (kind_of command) decided old new) h)
+  pub SparesFiles-decided : (words : List (List ℕ)) (c : Call) → SparesFiles words decided c
+      → SparesFiles words status c
+  SparesFiles-decided words c (inl h) = inl h
+  SparesFiles-decided words c (inr (command, asks, h, spoils)) =
+      inr (
+        command,
+        asks,
+        either (λ s. Spares command s c.shelf.old c.shelf.new)
+            (Spares-sink (kind_of command) decided c.shelf.old c.shelf.new) h,
+        λ e.
+            ⊎_elim (λ (f : status ≡ SinkFault). absurd (let x : SinkFault ≡ ShelfFault = sym f ∙ e in cc))
+            (λ (f : status ≡ decided). spoils (sym f ∙ e)) is,
+      )
 
   pub TakesInput-decided : (Same : Type 0) (words : List (List ℕ)) → Same ⊎ TakesInput words decided
       → Same ⊎ TakesInput words status

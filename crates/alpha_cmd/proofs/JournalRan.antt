@@ -58,6 +58,7 @@ use Rattle.alpha_cmd.proofs.JournalUnbegun.{unbegun_tried}
 use Rattle.alpha_cmd.proofs.Commands.Record.{HasAnswer, recorded_by, kept_answer, stopped_answer, untold_answer}
 use Rattle.alpha_cmd.proofs.Commands.Record.{some_end}
 use Rattle.alpha_cmd.proofs.JournalStatus.{over_takes}
+use Rattle.alpha_cmd.proofs.InputLeft.{untouched_input}
 use Rattle.alpha_cmd.proofs.StreamedWrites.{streamed_devices, does_stream, does_whole}
 use Rattle.alpha_cmd.proofs.AttemptsByForm.{starts_not}
 use Rattle.alpha_cmd.proofs.HasShown.{HasShown}
@@ -166,13 +167,15 @@ module _ (options : RunOptions) (m : ImpreciseState) (ahead : ℕ → ℕ)
   pub record_decides : (force : Bool) (last : Option SeenEvent) (count : ℕ) (journal : Parts) (decision : Decision)
       (to : ImpreciseState) (before after : Oracle) (d : Drawn) (out notes : SinkChange)
       → Records options.steps last journal m to before after d out notes
+      → ((bytes : List ℕ) → d.old.left ≡ Some bytes
+      → IsRecorded options.steps (program_of m.machine) bytes ahead journal)
       → ((left : Option (List ℕ))
       → answer_in left decision ≡ status_answer left (answer_status last count) (answer_line last))
       → before.ahead ≡ Some ahead → before.count ≡ Some 0 → after.count ≡ Some count → count < 2 ^ 64
       → MayRun force (plan_by m.machine.image ahead)
       → DecidesRecord options force (plan_by m.machine.image ahead) journal decision d out notes
   unfolding stopped_reads
-  record_decides force last count journal decision to before after d out notes r says tells none now low may =
+  record_decides force last count journal decision to before after d out notes r told says tells none now low may =
       let words = length r.stops.ran.words in
       let end = end_of_imprecise_event r.last_event in
       let lost = lost_trap r.last_event in
@@ -188,6 +191,8 @@ module _ (options : RunOptions) (m : ImpreciseState) (ahead : ℕ → ℕ)
             is = r.is ∙ ap (λ (c : Completion). journal_of c r.last_event r.stops.ran.steps) same_completion;
           };
           answers = r.stops.ran.fed.answers;
+          told = λ bytes tells. subst (λ (g : Program). IsRecorded options.steps g bytes ahead journal)
+              (same_program (unwatched options) m ahead same_completion fresh) (told bytes tells);
         };
         status_is =
             ap (λ (a : Answer). a.status) e
@@ -402,4 +407,4 @@ module _ (options : RunOptions) (m : ImpreciseState) (ahead : ℕ → ℕ)
         (KeepsFiles-refl (h.files old.shelf)) refl rests put noted (says (s.left input)))
         (over_takes force name d.status (inr (inr (inr (ap (λ (a : Answer). a.status) (says None))))))
         (record { later = omega (arith, rests.same); faults_unchanged = λ stays. rests.same })
-        (λ bytes tells. ([], bytes, refl, ap (λ (x : Supply). x.left) rests.left ∙ tells))
+        (untouched_input (drawn s old.input input) (ap (λ (x : Supply). x.left) rests.left)).0

@@ -3,7 +3,8 @@ use Rattle.std.proofs.Common.{◌≡◌, ◌≤◌, ◌*◌, ◌∙◌, ◌++◌
 use Rattle.std.proofs.Common.{refl, ap, arith}
 use Rattle.std.proofs.lemmas.List.{length-append}
 use Rattle.std.specs.List.{flat_map}
-use Rattle.alpha_image.specs.Parts.{Parts as Image}
+use Rattle.alpha_io.specs.Files.{HasFile}
+use Rattle.alpha_image.specs.Parts.{Parts as Image, image_spelling}
 use Rattle.alpha_request.specs.declared.options.RunOptions.{RunOptions}
 use Rattle.alpha_request.specs.Origin.{Origin}
 use Rattle.alpha_imprecise.specs.ChosenRun.{first_words, most_words}
@@ -18,6 +19,7 @@ use Rattle.alpha_replay.specs.Replay.{reports_of, replayed}
 use Rattle.alpha_replay.proofs.HeaderBytes.{length-journal_header}
 use Rattle.alpha_replay.proofs.ItemBytes.{length-item_bytes}
 use Rattle.alpha_replay.proofs.JournaledReplays.{journaled_lists, journaled_replays}
+use Rattle.alpha_cmd.specs.declared.status.Status.{Status}
 use Rattle.alpha_cmd.specs.declared.status.Status.TheVariants.{Done}
 use Rattle.alpha_cmd.specs.Outcome.{continues}
 use Rattle.alpha_cmd.specs.Answer.{Answer}
@@ -26,8 +28,10 @@ use Rattle.alpha_cmd.specs.Image.{ImageOf}
 use Rattle.alpha_cmd.specs.Commands.Imprecise.{Plan}
 use Rattle.alpha_cmd.specs.Commands.Record.{HasJournal, KeepsRun}
 use Rattle.alpha_cmd.specs.Commands.Replay as replays
+use Rattle.alpha_cmd.specs.Call.{Call}
+use Rattle.alpha_cmd.specs.RecordRan.{ShowsRecord, ReadsAndKeeps}
 use Rattle.alpha_cmd.specs.RunAnswer.{program_by}
-use Rattle.alpha_cmd.proofs.Commands.Imprecise.{planned_image}
+use Rattle.alpha_cmd.proofs.AcceptedFiles.{spelling-ImageOf}
 use Rattle.alpha_cmd.proofs.Commands.Replay.{replay_form-lawful}
 use Rattle.alpha_cmd.proofs.FormLaws.{one_answer}
 
@@ -77,20 +81,38 @@ told_journal : (options : RunOptions) (input : Option (List ℕ)) (plan : Plan) 
 told_journal options None plan p told has = cc
 told_journal options (Some input) plan p told has = recorded_replays options plan.image input plan.ahead p has
 
-pub kept_replay : (options : RunOptions) (choices : Origin)
-    (force : Bool) (file out : List ℕ) (w v : World) (a : Answer)
-    → IsSome w.input → IsSome v.files
-    → KeepsRun options choices force file out w v.files
-    → ((image : Image) → ImageOf w.files file (continues image) → ImageOf v.files file (continues image))
+-- where the image is there, and the journal, its replay is done
+replay_done : (file out : List ℕ) (v : World) (a : Answer) (image : Image) (p : Parts) → IsSome v.files
+    → ImageOf v.files file (continues image) → IsJournal p → HasFile v.files out (spelling p)
+    → (r : Replayed) × (replayed image p ≡ Ok r)
     → AnswerBy (replays.steps file out) v a → a.status ≡ Done 0
-kept_replay options choices force file out w v a told files (plan, planned, (p, good, has, there)) stays is =
-    let image = stays plan.image (planned_image force choices file w.files plan planned) in
-    let run = told_journal options w.input plan p told has in
+replay_done file out v a image p files is good there run answered =
     let b : Answer = replays.shown v.input run.0 in
     let answers : AnswerBy (replays.steps file out) v b = (
       continues b,
-      (run.0, (plan.image, image, (p, (spelling p, (there, short_enough p good), (good, refl)), run.1)), refl),
+      (run.0, (image, is, (p, (spelling p, (there, short_enough p good), (good, refl)), run.1)), refl),
       refl,
     ) in
     ap (λ (x : Answer). x.status)
-    (one_answer (replays.form file out) (replays.there file out) v (replay_form-lawful file out v) a b files is answers)
+    (one_answer (replays.form file out) (replays.there file out) v (replay_form-lawful file out v) a b files answered
+    answers)
+
+pub kept_replay : (options : RunOptions) (choices : Origin)
+    (force : Bool) (file out : List ℕ) (w v : World) (a : Answer)
+    → IsSome w.input → IsSome v.files
+    → (kept : KeepsRun options choices force file out w v.files)
+    → ImageOf v.files file (continues kept.0.image)
+    → AnswerBy (replays.steps file out) v a → a.status ≡ Done 0
+kept_replay options choices force file out w v a told files (plan, planned, (p, good, has, there)) image is =
+    replay_done file out v a plan.image p files image good there (told_journal options w.input plan p told has) is
+
+-- by the bytes that were read and kept
+pub read_replay : (options : RunOptions) (choices : Origin) (force : Bool) (file out input : List ℕ) (status : Status)
+    (c : Call) (v : World) (a : Answer) → c.input.old.left ≡ Some input
+    → (r : ReadsAndKeeps c.shelf choices file out (λ plan p. ShowsRecord options force plan p status c))
+    → IsSome v.files → HasFile v.files file (image_spelling r.plan.image) → HasFile v.files out (spelling r.journal)
+    → AnswerBy (replays.steps file out) v a → a.status ≡ Done 0
+read_replay options choices force file out input status c v a told r files image journal is =
+    replay_done file out v a r.plan.image r.journal files
+    (spelling-ImageOf r.plan.image v.files file r.is.good image) r.good journal
+    (recorded_replays options r.plan.image input r.plan.ahead r.journal (r.has.ran.told input told)) is

@@ -7,6 +7,7 @@ pub mod StageEffects
 pub mod CallEndings
 pub mod IsFixed
 pub mod FormLaws
+pub mod InputLeft
 pub mod JournalKept
 pub mod JournalRan
 pub mod JournalUnbegun
@@ -28,6 +29,7 @@ pub mod RunsOnReplies
 pub mod InputFreePrograms
 pub mod RecordedRuns
 pub mod ReplayedRuns
+pub mod SparesFiles
 pub mod StageLaws
 pub mod StreamedWrites
 pub mod SessionsTold

@@ -1,6 +1,7 @@
 -- From what a session did to what is done of an image by it.
-use Rattle.std.proofs.Common.{◌≡◌, ◌∙◌, ℕ, List, [], ◌++◌, Option, None, Some, Ok, Err, refl, sym, ap, subst, inl}
-use Rattle.std.proofs.Common.{arith}
+use Rattle.std.proofs.Common.{◌≡◌, ◌∙◌, ◌+◌, ℕ, List, [], ◌++◌, length, Option, None, Some, Ok, Err, refl, sym, ap}
+use Rattle.std.proofs.Common.{subst, inl, arith}
+use Rattle.std.proofs.lemmas.List.{length-append}
 use Rattle.alpha_io.specs.declared.Failed.{Failed}
 use Rattle.alpha_io.specs.declared.shelf.Shelf as shelves
 use Rattle.alpha_io.specs.declared.source.Source as sources
@@ -19,7 +20,7 @@ use Rattle.alpha_cmd.specs.declared.decision.Decision.{Decision}
 use Rattle.alpha_cmd.specs.declared.devices.Devices.{Devices}
 use Rattle.alpha_cmd.specs.Status.{status_line}
 use Rattle.alpha_cmd.specs.Outcome.{continues}
-use Rattle.alpha_cmd.specs.OfImage.Debug.{MayTell, session_status, LeavesTail, script_most, answer_told, IsEndStatus}
+use Rattle.alpha_cmd.specs.OfImage.Debug.{MayTell, session_status, LeavesOfScript, answer_told, IsEndStatus}
 use Rattle.alpha_cmd.specs.Answer.{Answer}
 use Rattle.alpha_cmd.specs.AnswerBy.{AnswerBy, status_answer, told}
 use Rattle.alpha_cmd.specs.Ends.{still}
@@ -42,24 +43,18 @@ told_by image (Some script) now taken rest t took is =
 pub may_tell : (image : Parts) (d : Drawn) (t : Transcript) → Follows image d t → MayTell d.old.left image t
 may_tell image d t follows = told_by image d.old.left d.new.left follows.taken follows.rest t follows.took follows.is
 
-pub Follows-LeavesTail : (image : Parts) (d : Drawn) (t : Transcript) → Follows image d t
-    → LeavesTail script_most d.old.left d.new.left
-Follows-LeavesTail image d t follows =
-    record { taken = follows.taken; rest = follows.rest; took = follows.took; bound = follows.most }
-
--- so an end of the script is left
-tail_end : (d : Drawn) → LeavesTail script_most d.old.left d.new.left → LeavesEnd d
-tail_end d tail = λ bytes tells.
-    let took = subst (λ (old : Option (List ℕ)). Takes old d.new.left tail.taken tail.rest) tells tail.took in
-    (tail.taken, tail.rest, took.0, took.1)
-
-took_none : (left : Option (List ℕ)) → LeavesTail script_most left left
-took_none None = record { taken = []; rest = []; took = tt; bound = omega arith }
-took_none (Some bytes) = record { taken = []; rest = bytes; took = (refl, refl); bound = omega arith }
-
--- an input of which nothing was taken
-pub tail_same : (old new : Option (List ℕ)) → new ≡ old → LeavesTail script_most old new
-tail_same old new same = subst (λ (left : Option (List ℕ)). LeavesTail script_most old left) (sym same) (took_none old)
+-- what is left of it
+pub script_left : (image : Parts) (d : Drawn) (t : Transcript) → Follows image d t → LeavesOfScript d
+script_left image d t follows =
+    let took = λ (bytes : List ℕ) (tells : d.old.left ≡ Some bytes).
+    subst (λ (old : Option (List ℕ)). Takes old d.new.left follows.taken follows.rest) tells follows.took in (
+      λ bytes tells. (follows.taken, follows.rest, (took bytes tells).0, (took bytes tells).1),
+      λ bytes rest tells left.
+          let same : rest ≡ follows.rest = (let e = sym left ∙ (took bytes tells).1 in cc) in
+          let all : length bytes ≡ length follows.taken + length follows.rest =
+          ap length (took bytes tells).0 ∙ length-append follows.taken follows.rest in
+          omega (arith, all, ap length same, follows.most),
+    )
 
 -- ---- what is done of an image by a session
 
@@ -69,7 +64,7 @@ module _ {H S K N : Type 0} (h : shelves.Ghosts H) (s : sources.Ghosts S) (k : s
   new = streamed_devices h s k n old input out old.notes
 
   rest : (t : Transcript) → Follows image (drawn s old.input input) t → LeavesEnd (drawn s old.input input)
-  rest t follows = tail_end (drawn s old.input input) (Follows-LeavesTail image (drawn s old.input input) t follows)
+  rest t follows = (script_left image (drawn s old.input input) t follows).0
 
   -- its transcript is an answer
   answers : (t : Transcript) → Follows image (drawn s old.input input) t

@@ -30,6 +30,7 @@ use Rattle.alpha_cmd.specs.Outcome.{Outcome, continues}
 use Rattle.alpha_cmd.specs.Stage.{Stage, StopsBy}
 use Rattle.alpha_cmd.specs.Status.{status_line}
 use Rattle.alpha_cmd.proofs.CallEndings.{IsLeft-own, Leaves-kept}
+use Rattle.alpha_cmd.proofs.InputLeft.{untouched_input}
 use Rattle.alpha_cmd.proofs.KeptBytes.{FinalOutcome-kept, SparesBy-after}
 use Rattle.alpha_cmd.proofs.AttemptsByForm.{stopped_by}
 
@@ -82,7 +83,7 @@ module _ {H S K N : Type 0} (h : shelves.Ghosts H) (s : sources.Ghosts S) (k : s
     files = spares;
     input = inl refl;
     source = record { later = omega arith; faults_unchanged = λ stays. refl };
-    rest = λ bytes tells. ([], bytes, refl, tells);
+    rest = (untouched_input (drawn s old.input old.input) refl).0;
   }
 
   -- it has this answer
@@ -201,7 +202,7 @@ module _ {H S K N : Type 0} (h : shelves.Ghosts H) (s : sources.Ghosts S) (k : s
           files = inl (KeepsFiles-refl (h.files old.shelf));
           input = inl refl;
           source = record { later = omega arith; faults_unchanged = λ stays. refl };
-          rest = λ bytes tells. ([], bytes, refl, tells);
+          rest = (untouched_input (drawn s old.input old.input) refl).0;
         }
 
     -- done with this text was tried, and the output failed
@@ -221,5 +222,5 @@ module _ {H S K N : Type 0} (h : shelves.Ghosts H) (s : sources.Ghosts S) (k : s
       files = inl (KeepsFiles-refl (h.files old.shelf));
       input = inl refl;
       source = record { later = omega arith; faults_unchanged = λ stays. refl };
-      rest = λ bytes tells. ([], bytes, refl, tells);
+      rest = (untouched_input (drawn s old.input old.input) refl).0;
     }

@@ -1,7 +1,7 @@
 -- What is promised of every call, by its words, its status and what it did to its devices.
 use Rattle.std.specs.Prelude.{◌≡◌, ◌≢◌, ◌⊎◌, ℕ, false, List}
 use Rattle.alpha_io.specs.Faults.{Faulted}
-use Rattle.alpha_io.specs.Files.{Files, KeepsFiles}
+use Rattle.alpha_io.specs.Files.{KeepsFiles}
 use Rattle.alpha_io.specs.ShelfChange.{ShelfChange}
 use Rattle.alpha_request.specs.Command.{Command, debug}
 use Rattle.alpha_request.specs.Commands.Run as run_words
@@ -16,12 +16,12 @@ use Rattle.alpha_cmd.specs.Status.{class_of, ended}
 use Rattle.alpha_cmd.specs.Answer.{Answer}
 use Rattle.alpha_cmd.specs.Asks.{AsksFor}
 use Rattle.alpha_cmd.specs.Call.{Call, NoDeviceFault}
-use Rattle.alpha_cmd.specs.Commands.{EndsBy, MayTake, Spares}
-use Rattle.alpha_cmd.specs.OfImage.Debug.{LeavesTail, script_most}
+use Rattle.alpha_cmd.specs.Commands.{AnswerOf, EndsBy, MayTake, Spares}
+use Rattle.alpha_cmd.specs.OfImage.Debug.{LeavesOfScript}
 use Rattle.alpha_cmd.specs.Ends.{EndsCall, EndsPart}
 use Rattle.alpha_cmd.specs.Answered.{Answered}
 use Rattle.alpha_cmd.specs.AnswerBy.{told}
-use Rattle.alpha_cmd.specs.Kept.{Serves}
+use Rattle.alpha_cmd.specs.Kept.{file, Serves}
 use Rattle.alpha_cmd.specs.Tried.{AreTold, IsAnswer, IsGiven, AttemptedBy}
 use Rattle.alpha_cmd.specs.Attempts.{CountStays}
 
@@ -56,10 +56,19 @@ GivesThe words status c =
 abbrev pub ServesUnder : Status → ShelfChange → Type 0
 ServesUnder status s = Serves s ((status ≢ ShelfFault) × (status ≢ SinkFault))
 
--- Told files stay, but for the one that the words' command keeps.
-abbrev pub SparesFiles : List (List ℕ) → Status → Files → Files → Type 0
-SparesFiles words status old new =
-    KeepsFiles old new ⊎ ((command : Command) × AsksFor words command × Spares command status old new)
+-- A keep failed with the shelf, of the file that an answer of the command keeps.
+abbrev pub MaySpoil : Command → Call → Type 0
+MaySpoil command c =
+    Faulted c.shelf.before c.shelf.now
+    × (name : List ℕ) × (bytes : List ℕ) × (a : Answer) × AnswerOf command (told c) a × (a.kept ≡ file name bytes)
+
+-- Told files stay, but for the one that the words' command keeps; under the status of a shelf's fault but for one whose
+-- keep failed.
+abbrev pub SparesFiles : List (List ℕ) → Status → Call → Type 0
+SparesFiles words status c =
+    KeepsFiles c.shelf.old c.shelf.new
+    ⊎ ((command : Command) × AsksFor words command × Spares command status c.shelf.old c.shelf.new
+    × (status ≡ ShelfFault → MaySpoil command c))
 
 -- Input may be taken by a run or a session that was begun.
 abbrev pub TakesInput : List (List ℕ) → Status → Type 0
@@ -71,7 +80,7 @@ DrawsUnder status d = CountStays d ((status ≢ InputFault) × (status ≢ SinkF
 
 -- Of a script no more is taken than the bytes that count and one.
 abbrev pub LeavesScript : List (List ℕ) → Drawn → Type 0
-LeavesScript words d = (file : List ℕ) → AsksFor words (debug file) → LeavesTail script_most d.old.left d.new.left
+LeavesScript words d = (file : List ℕ) → AsksFor words (debug file) → LeavesOfScript d
 
 -- ---- the status of a run
 

@@ -1,6 +1,6 @@
 -- What a call of `record FILE OUT` shows, by the bytes that the calls of its devices gave and took, whatever these tell
 -- beforehand.
-use Rattle.std.specs.Prelude.{◌≡◌, ℕ, ◌%◌, ◌^◌, Bool, false, true, List, [], ◌∷◌, ◌++◌}
+use Rattle.std.specs.Prelude.{◌≡◌, ℕ, ◌%◌, ◌^◌, Bool, false, true, List, [], ◌∷◌, ◌++◌, Some}
 use Rattle.alpha_io.specs.Files.{HasFile}
 use Rattle.alpha_io.specs.History.{Reply, Kept}
 use Rattle.alpha_io.specs.ShelfChange.{ShelfChange}
@@ -19,15 +19,17 @@ use Rattle.alpha_cmd.specs.declared.decision.Decision.{Decision}
 use Rattle.alpha_cmd.specs.declared.status.Status.{Status}
 use Rattle.alpha_cmd.specs.Call.{Call}
 use Rattle.alpha_cmd.specs.Commands.Imprecise.{Plan, imprecise_status, imprecise_line}
-use Rattle.alpha_cmd.specs.Commands.Record.{RecordedByReads, HasRecorded}
+use Rattle.alpha_cmd.specs.Commands.Record.{RecordedByReads, HasRecorded, HasJournal}
 use Rattle.alpha_cmd.specs.PlanRead.{IsPlanRead}
 
 -- A run by the words of a plan that has this journal. Its reads are what the calls of the source gave, each behind the
--- one before, and the source was asked for nothing else.
+-- one before, and the source was asked for nothing else. Where the input is told, the journal is that of the run over
+-- it.
 pub record RecordOnReplies (options : RunOptions) (plan : Plan) (p : Parts) (d : Drawn) : Type 0 where
   pub run : RecordedByReads options plan
   pub has : HasRecorded options plan p run
   pub answers : AnswersEach d.old.replies (seen run.steps) d.new.replies
+  pub told : (input : List ℕ) → d.old.left ≡ Some input → HasJournal options (Some input) plan p
 
 -- the status and the last line of its end; of the number of words the status has what stands in 64 bits
 abbrev pub status_recorded : {options : RunOptions} {plan : Plan} {p : Parts} {d : Drawn}

@@ -1,5 +1,5 @@
 -- Devices that never fail, and tell everything.
-use Rattle.std.specs.Prelude.{ℕ, List, None, Some}
+use Rattle.std.specs.Prelude.{None, Some}
 use Rattle.alpha_io.specs.SourceState.{SureSourceState}
 use Rattle.alpha_io.specs.SureShelfState.{SureShelfState, sure_file, sure_takes}
 use Rattle.alpha_cmd.specs.declared.devices.Devices.{Devices}

@@ -53,7 +53,7 @@ pub fn alpha_main<H: Shelf, S: Source, K: Sink, N: Sink>(
         (called H.Shelf S.Source K.Sink N.Sink devices.old devices.new) }
     ensures shelf { ServesUnder result (shelf_change H.Shelf devices.old.shelf devices.new.shelf) }
     ensures files { SparesFiles (words_in arguments.now) result
-        (H.files devices.old.shelf) (H.files devices.new.shelf) }
+        (called H.Shelf S.Source K.Sink N.Sink devices.old devices.new) }
     ensures input { (devices.new.input ≡ devices.old.input) ⊎ TakesInput (words_in arguments.now) result }
     ensures source { DrawsUnder result (drawn S.Source devices.old.input devices.new.input) }
     ensures rest { LeavesEnd (drawn S.Source devices.old.input devices.new.input) }

@@ -7,6 +7,7 @@ ghost use Rattle.alpha_request.specs.Origin as choices;
 ghost use Rattle.alpha_request.specs.Origin.{Origin};
 ghost use Rattle.alpha_request.specs.declared.options.RunOptions.{RunOptions};
 ghost use Rattle.alpha_imprecise.specs.Restart.{IsRestartable};
+ghost use Rattle.alpha_replay.specs.Journal.{spelling};
 ghost use Rattle.alpha_cmd.specs.declared.status.Status.{Status};
 ghost use Rattle.alpha_cmd.specs.declared.status.Status.TheVariants.{Done};
 ghost use Rattle.alpha_cmd.specs.Outcome.{continues};
@@ -26,6 +27,7 @@ ghost use Rattle.alpha_cmd.specs.Commands.Record.{KeepsRun};
 ghost use Rattle.alpha_cmd.specs.Commands.Replay as replays;
 ghost use Rattle.alpha_cmd.specs.Commands.Run as runs;
 ghost use Rattle.alpha_cmd.specs.ReadsNothing.{ReadsNothing, answer_unread};
+ghost use Rattle.alpha_cmd.specs.RecordRan.{ReadsAndKeeps, ShowsRecord};
 ghost use Rattle.alpha_cmd.specs.RecordedRun.{KeepsItsJournal};
 ghost use Rattle.alpha_cmd.specs.ToldRun.{answer_told};
 ghost use Rattle.alpha_cmd.specs.Tried.{AreTold, IsAnswer};
@@ -138,12 +140,20 @@ pub fn laws_of_kept_modules()
 {}
 
 /// The law of records: where a call of `record` has kept the journal of a run over a told input, and the
-/// image's file still spells that image, a replay of the journal on it is done. It is never refused.
+/// image's file spells the image of that run where the replay is asked for, the replay of the journal on it is
+/// done. It is never refused. So it is too where the files then hold the bytes that the shelf's calls gave and
+/// kept when the run was recorded, whatever the shelf told.
 pub fn laws_of_records()
-    ensures { (options : RunOptions) (choices : Origin) (force : Bool) (file out : List ℕ)
+    ensures kept { (options : RunOptions) (choices : Origin) (force : Bool) (file out : List ℕ)
         (w v : World) (a : Answer) → IsSome w.input → IsSome v.files
-        → KeepsRun options choices force file out w v.files
-        → ((image : Parts) → ImageOf w.files file (continues image) → ImageOf v.files file (continues image))
+        → (kept : KeepsRun options choices force file out w v.files)
+        → ImageOf v.files file (continues kept.0.image)
+        → AnswerBy (replays.steps file out) v a → a.status ≡ Done 0 }
+    ensures read { (options : RunOptions) (choices : Origin) (force : Bool) (file out input : List ℕ)
+        (status : Status) (c : Call) (v : World) (a : Answer) → c.input.old.left ≡ Some input
+        → (r : ReadsAndKeeps c.shelf choices file out (λ plan p. ShowsRecord options force plan p status c))
+        → IsSome v.files → HasFile v.files file (image_spelling r.plan.image)
+        → HasFile v.files out (spelling r.journal)
         → AnswerBy (replays.steps file out) v a → a.status ≡ Done 0 }
 {}
 

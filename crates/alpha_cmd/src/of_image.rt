@@ -7,7 +7,7 @@ ghost use Rattle.alpha_shadow.specs.Broken.{IsAccepted};
 ghost use Rattle.alpha_seq.specs.Devices.{drawn};
 ghost use Rattle.alpha_request.specs.Command as commands;
 ghost use Rattle.alpha_request.specs.declared.request.ImageCommand.TheVariants as asked;
-ghost use Rattle.alpha_cmd.specs.OfImage.Debug.{LeavesTail, script_most};
+ghost use Rattle.alpha_cmd.specs.OfImage.Debug.{LeavesOfScript};
 ghost use Rattle.alpha_cmd.specs.Checked.{ReadsImage};
 ghost use Rattle.alpha_cmd.specs.CommandEffect.{CommandEffect};
 ghost use Rattle.alpha_cmd.specs.Ends.{status_in};
@@ -47,7 +47,7 @@ pub(crate) fn of_image<H: Shelf, S: Source, K: Sink, N: Sink>(
     ensures does { CommandEffect H.Shelf S.Source K.Sink N.Sink
         (images.form command file.now) result devices.old devices.new }
     ensures script { command ≡ asked.Debug
-        → LeavesTail script_most (S.left devices.old.input) (S.left devices.new.input) }
+        → LeavesOfScript (drawn S.Source devices.old.input devices.new.input) }
 {
     match load(alloc, &mut devices.shelf, file) {
         Ok(image) => on_image(alloc, command, image, devices),
@@ -71,7 +71,7 @@ fn on_image<H: Shelf, S: Source, K: Sink, N: Sink>(
     ensures does { CommandEffect H.Shelf S.Source K.Sink N.Sink (images.on command image) result
         devices.old devices.new }
     ensures script { command ≡ asked.Debug
-        → LeavesTail script_most (S.left devices.old.input) (S.left devices.new.input) }
+        → LeavesOfScript (drawn S.Source devices.old.input devices.new.input) }
 {
     match command {
         ImageCommand::Check => Ok(check::check_image(&image)),

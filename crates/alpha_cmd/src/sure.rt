@@ -1,13 +1,11 @@
-ghost use Rattle.std.specs.Prelude.{◌≡◌, ◌≢◌, ◌⊎◌, Some};
-ghost use Rattle.alpha_io.specs.Files.{KeepsFiles};
-ghost use Rattle.alpha_io.specs.SureShelfState.{sure_file};
+ghost use Rattle.std.specs.Prelude.{◌≡◌, ◌≢◌, ◌⊎◌};
 ghost use Rattle.alpha_request.specs.Command.{Command};
 ghost use Rattle.alpha_seq.specs.Devices.{LeavesEnd};
 ghost use Rattle.alpha_cmd.specs.Answer.{Answer};
 ghost use Rattle.alpha_cmd.specs.Asks.{AsksFor};
-ghost use Rattle.alpha_cmd.specs.Commands.{there_of, MayTake, Spares};
+ghost use Rattle.alpha_cmd.specs.Commands.{there_of, MayTake};
 ghost use Rattle.alpha_cmd.specs.Answered.{Answered};
-ghost use Rattle.alpha_cmd.specs.Promises.{EndsWhole, LeavesScript};
+ghost use Rattle.alpha_cmd.specs.Promises.{EndsWhole, LeavesScript, SparesFiles};
 ghost use Rattle.alpha_cmd.specs.Sure.{sure_world, sure_call};
 ghost use Rattle.alpha_cmd.specs.Tried.{IsAnswer};
 
@@ -38,9 +36,7 @@ pub fn alpha_sure(
         → there_of command (sure_world devices.old.shelf devices.old.input) → result ≢ Status.ShelfFault }
 
     // Files stay, but for the one that a command keeps, and so does input but for a run or a session.
-    ensures files { KeepsFiles (Some (sure_file devices.old.shelf)) (Some (sure_file devices.new.shelf))
-        ⊎ ((command : Command) × AsksFor words.now command
-        × Spares command result (Some (sure_file devices.old.shelf)) (Some (sure_file devices.new.shelf))) }
+    ensures files { SparesFiles words.now result (sure_call devices.old devices.new) }
     ensures input { (devices.new.input ≡ devices.old.input)
         ⊎ ((command : Command) × AsksFor words.now command × MayTake command result) }
 {

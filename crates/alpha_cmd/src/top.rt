@@ -1,6 +1,5 @@
 ghost use Rattle.std.specs.Prelude.{◌≡◌, ◌≢◌, ◌<◌, ◌≤◌, ◌⊎◌, ℕ, List, IfOk};
 ghost use Rattle.alpha_io.specs.Faults.{Faulted};
-ghost use Rattle.alpha_io.specs.Files.{KeepsFiles};
 ghost use Rattle.alpha_io.specs.ShelfChange.{shelf_change};
 ghost use Rattle.alpha_io.specs.SinkChange.{sink_change};
 ghost use Rattle.alpha_request.specs.Command as commands;
@@ -12,8 +11,8 @@ ghost use Rattle.alpha_cmd.specs.AnswerBy.{world};
 ghost use Rattle.alpha_cmd.specs.Asks.{AsksFor};
 ghost use Rattle.alpha_cmd.specs.Call.{called};
 ghost use Rattle.alpha_cmd.specs.Checked.{Checked};
-ghost use Rattle.alpha_cmd.specs.Commands.{form_of, MayTake, Spares};
-ghost use Rattle.alpha_cmd.specs.OfImage.Debug.{LeavesTail, script_most};
+ghost use Rattle.alpha_cmd.specs.Commands.{form_of, MayTake};
+ghost use Rattle.alpha_cmd.specs.OfImage.Debug.{LeavesOfScript};
 ghost use Rattle.alpha_cmd.specs.Commands.Link.{KeepsLinks};
 ghost use Rattle.alpha_cmd.specs.SourceCommands.Module.{KeepsModules};
 ghost use Rattle.alpha_cmd.specs.Commands.Record.{KeepsUnder};
@@ -83,9 +82,9 @@ pub fn alpha_top<H: Shelf, S: Source, K: Sink, N: Sink>(
     ensures part { EndsCut words.now result (called H.Shelf S.Source K.Sink N.Sink devices.old devices.new) }
 
     // The shelf fails only under its status, or under that of a sink. Told files stay, but for the
-    // one that a command keeps.
+    // one that a command keeps; under the status of the shelf's fault but for one whose keep failed.
     ensures shelf { ServesUnder result (shelf_change H.Shelf devices.old.shelf devices.new.shelf) }
-    ensures files { SparesFiles words.now result (H.files devices.old.shelf) (H.files devices.new.shelf) }
+    ensures files { SparesFiles words.now result (called H.Shelf S.Source K.Sink N.Sink devices.old devices.new) }
 
     // Input is not touched, but by a run or a session that was begun, and it fails only under its
     // status, or under that of a sink.
@@ -198,16 +197,15 @@ fn decide<H: Shelf, S: Source, K: Sink, N: Sink>(
         (sink_change K.Sink devices.old.out devices.new.out) (sink_change N.Sink devices.old.notes devices.new.notes) }
     ensures shelf { Serves (shelf_change H.Shelf devices.old.shelf devices.new.shelf)
         (IfOk result (λ decision. decision.status ≢ Status.ShelfFault)) }
-    ensures files { KeepsFiles (H.files devices.old.shelf) (H.files devices.new.shelf)
-        ⊎ ((command : Command) × AsksFor words.now command
-        × Spares command (status_in result) (H.files devices.old.shelf) (H.files devices.new.shelf)) }
+    ensures files { SparesFiles words.now (status_in result)
+        (called H.Shelf S.Source K.Sink N.Sink devices.old devices.new) }
     ensures input { (devices.new.input ≡ devices.old.input)
         ⊎ ((command : Command) × AsksFor words.now command × MayTake command (status_in result)) }
     ensures source { CountStays (drawn S.Source devices.old.input devices.new.input)
         (IfOk result (λ decision. decision.status ≢ Status.InputFault)) }
     ensures rest { LeavesEnd (drawn S.Source devices.old.input devices.new.input) }
     ensures script { (file : List ℕ) → AsksFor words.now (commands.debug file)
-        → LeavesTail script_most (S.left devices.old.input) (S.left devices.new.input) }
+        → LeavesOfScript (drawn S.Source devices.old.input devices.new.input) }
     ensures replied { Replies words.now (status_in result)
         (shelf_change H.Shelf devices.old.shelf devices.new.shelf) }
     ensures ran { (command : Command) → AsksFor words.now command → WhereEnded result (λ decision.
@@ -237,7 +235,7 @@ fn perform<H: Shelf, S: Source, K: Sink, N: Sink>(
     ensures does { CommandEffect H.Shelf S.Source K.Sink N.Sink (form_of (command_of request.entry)) result
         devices.old devices.new }
     ensures script { (file : List ℕ) → command_of request.entry ≡ commands.debug file
-        → LeavesTail script_most (S.left devices.old.input) (S.left devices.new.input) }
+        → LeavesOfScript (drawn S.Source devices.old.input devices.new.input) }
     ensures replied { status_in result ≡ Status.Done 0 → Replied (command_of request.entry)
         (shelf_change H.Shelf devices.old.shelf devices.new.shelf) }
     ensures ran { WhereEnded result (λ decision. DecidesAsked (command_of request.entry) decision

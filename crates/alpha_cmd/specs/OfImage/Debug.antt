@@ -1,8 +1,8 @@
 -- `debug FILE`: what a session of the debugger on the image's program tells, its status, and what it leaves of its
 -- script.
 use Rattle.std.specs.Prelude.{◌≡◌, ◌⊎◌, ℕ, ◌+◌, ◌≤◌, List, [], length, Option, Some, None}
-use Rattle.alpha_pal.specs.CallEffect.{Takes}
 use Rattle.alpha_image.specs.Parts.{Parts}
+use Rattle.alpha_seq.specs.Devices.{Drawn, LeavesEnd}
 use Rattle.alpha_debug.specs.declared.end.DebugEnd.{DebugEnd}
 use Rattle.alpha_debug.specs.declared.end.DebugEnd.TheVariants as ends
 use Rattle.alpha_debug.specs.Script.{Transcript, IsTranscript, script_limit}
@@ -26,18 +26,18 @@ session_status ends.SinkFault = SinkFault
 session_status ends.TooLarge = TooLarge script_limit
 session_status ends.NoMemory = NoMemory
 
--- What is left of an input that is told: a suffix, which holds all that stands behind so many bytes at its front.
-pub record LeavesTail (most : ℕ) (old new : Option (List ℕ)) : Type 0 where
-  pub taken : List ℕ
-  pub rest : List ℕ
-  pub took : Takes old new taken rest
-  pub bound : length taken ≤ most
-
 -- the most bytes of a script that are taken: those that count and one
 abbrev pub script_most : ℕ
 script_most = script_limit + 1
 
--- what a session tells; how much of the script is left is not said here (`LeavesTail`)
+-- Of an input that is told an end is left, and no more was taken than so many bytes.
+abbrev pub LeavesOfScript : Drawn → Type 0
+LeavesOfScript d =
+    LeavesEnd d
+    × ((bytes rest : List ℕ) → d.old.left ≡ Some bytes → d.new.left ≡ Some rest
+    → length bytes ≤ length rest + script_most)
+
+-- what a session tells; how much of the script is left is not said here (`LeavesOfScript`)
 abbrev pub answer_told : Transcript → Answer
 answer_told t = record {
   status = session_status t.end;

@@ -4,7 +4,7 @@ ghost use Rattle.std.specs.Prelude.{◌≡◌};
 ghost use Rattle.alpha_io.specs.SinkChange.{sink_change};
 ghost use Rattle.alpha_seq.specs.Devices.{drawn};
 ghost use Rattle.alpha_request.specs.declared.request.ImageCommand.TheVariants as asked;
-ghost use Rattle.alpha_cmd.specs.OfImage.Debug.{LeavesTail, script_most};
+ghost use Rattle.alpha_cmd.specs.OfImage.Debug.{LeavesOfScript};
 ghost use Rattle.alpha_cmd.specs.CommandEffect.{CommandEffect};
 ghost use Rattle.alpha_cmd.specs.Ends.{status_in};
 ghost use Rattle.alpha_cmd.specs.OfImage as images;
@@ -33,7 +33,7 @@ pub(crate) fn session<H: Shelf, S: Source, K: Sink, N: Sink>(
     ensures ends { EndsOf asked.Debug (status_in result) }
     ensures does { CommandEffect H.Shelf S.Source K.Sink N.Sink
         (images.on asked.Debug image) result devices.old devices.new }
-    ensures script { LeavesTail script_most (S.left devices.old.input) (S.left devices.new.input) }
+    ensures script { LeavesOfScript (drawn S.Source devices.old.input devices.new.input) }
     ensures shelf { devices.new.shelf ≡ devices.old.shelf }
 {
     match debug(alloc, image, &mut devices.input, &mut devices.out) {

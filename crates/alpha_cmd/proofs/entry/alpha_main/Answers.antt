@@ -1,5 +1,6 @@
-use Rattle.std.proofs.Common.{◌≡◌, ◌⊎◌, ℕ, List, [], refl, subst, inl, inr, arith}
+use Rattle.std.proofs.Common.{◌≡◌, ◌⊎◌, ℕ, List, refl, subst, inl, inr, arith}
 use Rattle.alpha_io.proofs.ShelfLaws.{KeepsFiles-refl}
+use Rattle.alpha_seq.specs.Devices.{drawn}
 use Rattle.alpha_cmd.specs.declared.status.Status.TheVariants.{Done, SinkFault, NoMemory}
 use Rattle.alpha_cmd.specs.Accepts.{Accepts}
 use Rattle.alpha_cmd.specs.Alike.{Alike}
@@ -23,7 +24,7 @@ use Rattle.alpha_cmd.specs.Restarts.{Restarts}
 use Rattle.alpha_cmd.specs.ToldRun.{RanTold}
 use Rattle.alpha_cmd.proofs.JournalStatus.{journal_status-no_end}
 use Rattle.alpha_cmd.proofs.EndStatuses.{memory_unended, run_end_class}
-use Rattle.alpha_cmd.proofs.SessionsTold.{tail_same}
+use Rattle.alpha_cmd.proofs.InputLeft.{untouched_input}
 use Rattle.alpha_cmd.proofs.EndsWhere.{failed_ends}
 use Rattle.alpha_cmd.proofs.entry.alpha_main.Goals as goal
 
@@ -37,7 +38,7 @@ returns-in-Ok g c =
       whole = inl (subst (λ (words : List (List ℕ)). EndsWhole words status did) is done.whole);
       part = subst (λ (words : List (List ℕ)). EndsCut words status did) is done.part;
       shelf = done.shelf;
-      files = subst (λ (words : List (List ℕ)). SparesFiles words status did.shelf.old did.shelf.new) is done.files;
+      files = subst (λ (words : List (List ℕ)). SparesFiles words status did) is done.files;
       input =
           subst (λ (words : List (List ℕ)). (c.alpha_top.new.devices.input ≡ c.args.devices.now.input)
           ⊎ TakesInput words status)
@@ -73,7 +74,7 @@ returns-in-Ok g c =
 -- memory ran out before the words were gathered
 pub returns-in-Err : goal.returns-in-Err
 returns-in-Err g c =
-    let left = g.S.Source.left c.args.devices.now.input in
+    let quiet = untouched_input (drawn g.S.Source c.args.devices.now.input c.args.devices.now.input) refl in
     let undone : NoMemory ≡ Done 0 → ⊥ = λ e. cc in
     record {
       whole = inr (refl, refl, refl, refl, refl);
@@ -82,10 +83,10 @@ returns-in-Err g c =
       files = inl (KeepsFiles-refl (g.H.Shelf.files c.args.devices.now.shelf));
       input = inl refl;
       source = record { later = omega arith; faults_unchanged = λ stays. refl };
-      rest = λ bytes tells. ([], bytes, refl, tells);
+      rest = quiet.0;
       ended = λ is. absurd cc;
       found = λ options choices file lost asks e. cc;
-      script = λ file asks. tail_same left left refl;
+      script = λ file asks. quiet;
       runs = λ command asks. record {
         shows = λ ends. absurd (memory_unended ends);
         ends = failed_ends command NoMemory _ (inl refl);

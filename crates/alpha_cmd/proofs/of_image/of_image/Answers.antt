@@ -11,7 +11,7 @@ use Rattle.alpha_cmd.proofs.EndsWhere.{failed_of, memory_said}
 use Rattle.alpha_cmd.proofs.EndStatuses.{stopped_unended}
 use Rattle.alpha_cmd.proofs.RunsOnReplies.{image_ran}
 use Rattle.alpha_cmd.proofs.StageLaws.{stopped_undone, image_plain}
-use Rattle.alpha_cmd.proofs.SessionsTold.{tail_same}
+use Rattle.alpha_cmd.proofs.InputLeft.{untouched_input}
 use Rattle.alpha_cmd.proofs.of_image.of_image.Goals as goal
 
 pub returns-in-Ok-clause-does : goal.returns-in-Ok-clause-does
@@ -31,7 +31,7 @@ returns-in-Err-clause-does g c =
 
 pub returns-in-Err-clause-script : goal.returns-in-Err-clause-script
 returns-in-Err-clause-script g c =
-    λ is. tail_same (g.S.Source.left c.args.devices.now.input) (g.S.Source.left c.args.devices.now.input) refl
+    λ is. untouched_input (drawn g.S.Source c.args.devices.now.input c.args.devices.now.input) refl
 
 pub returns-in-Ok-clause-checked : goal.returns-in-Ok-clause-checked
 returns-in-Ok-clause-checked g c = λ is done.

@@ -109,5 +109,7 @@ returns-in-Made-clause-ran g c = λ force may.
     record_decides c.args.options begun.wild (ahead_in begun.chooser.chooser) c.requires.completion c.requires.fresh
     force c.in-Made.last c.drawn.result c.in-Made.journal c.after_run.result new.wild _ _
     (drawn g.S.Source old.input new.input) (sink_change g.K.Sink old.out new.out)
-    (sink_change g.N.Sink old.notes new.notes) c.in-Made.ensures.made c.after_run.ensures refl
-    (ap (λ (k : ℕ). Some k) c.requires.none) (ap (λ (k : ℕ). Some k) (sym c.drawn.ensures)) c.drawn.type_inv may
+    (sink_change g.N.Sink old.notes new.notes) c.in-Made.ensures.made
+    (λ bytes told. c.in-Made.ensures.told bytes (ahead_in begun.chooser.chooser) told refl c.requires.fresh)
+    c.after_run.ensures refl (ap (λ (k : ℕ). Some k) c.requires.none)
+    (ap (λ (k : ℕ). Some k) (sym c.drawn.ensures)) c.drawn.type_inv may

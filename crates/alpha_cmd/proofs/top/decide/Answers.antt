@@ -1,6 +1,7 @@
-use Rattle.std.proofs.Common.{◌≡◌, ◌∙◌, [], Some, IfOk, refl, sym, ap, subst, inl, inr, ⊎_elim}
+use Rattle.std.proofs.Common.{◌≡◌, ◌∙◌, Some, IfOk, refl, sym, ap, subst, inl, inr, ⊎_elim}
 use Rattle.alpha_io.specs.Faults.{Faulted}
 use Rattle.alpha_io.proofs.ShelfLaws.{KeepsFiles-refl}
+use Rattle.alpha_seq.specs.Devices.{drawn}
 use Rattle.alpha_request.specs.Command.{Command, record_run}
 use Rattle.alpha_request.specs.CommandOf.{command_of}
 use Rattle.alpha_request.proofs.TrialBlocks.{asked_blocks}
@@ -16,7 +17,8 @@ use Rattle.alpha_cmd.specs.RunsAsked.{DecidesAsked, EndsAsRun}
 use Rattle.alpha_cmd.specs.Replied.{Replied}
 use Rattle.alpha_cmd.proofs.CallEndings.{Leaves-all, OutcomeOrFault-map}
 use Rattle.alpha_cmd.proofs.EndStatuses.{said_unended, words_unended}
-use Rattle.alpha_cmd.proofs.SessionsTold.{tail_same}
+use Rattle.alpha_cmd.proofs.InputLeft.{untouched_input}
+use Rattle.alpha_cmd.proofs.SparesFiles.{SparesFiles-by_outcome}
 use Rattle.alpha_cmd.proofs.AttemptedBy.{asked_tried, kind_is}
 use Rattle.alpha_cmd.proofs.EndsWhere.{failed_ends}
 use Rattle.alpha_cmd.proofs.top.decide.Goals as goal
@@ -34,12 +36,11 @@ returns-in-Ok g c =
           (Faulted did.input.before did.input.now) c.args.words.now command (told did) t asks)
           did.shelf did.shelf (λ kept h. h) c.perform.result did.input.new.left did.out did.notes does.tried;
       shelf = does.shelf;
-      files = inr (
-        command,
-        asks,
-        subst (λ (k : Kind). SparesBy k (status_in c.perform.result) did.shelf.old did.shelf.new)
-            (kind_is command) does.files,
-      );
+      files =
+          SparesFiles-by_outcome c.args.words.now command asks did c.perform.result did.input.new.left did.out did.notes
+          does.tried
+          (subst (λ (k : Kind). SparesBy k (status_in c.perform.result) did.shelf.old did.shelf.new)
+          (kind_is command) does.files);
       input =
           ⊎_elim (λ (h : c.perform.new.devices.input ≡ c.args.devices.now.input). inl h)
           (λ (h : MayTakeBy (form_of command).kind (status_in c.perform.result)).
@@ -65,7 +66,8 @@ returns-in-Ok g c =
     }
 
 pub returns-in-Err-BadWords-clause-rest : goal.returns-in-Err-BadWords-clause-rest
-returns-in-Err-BadWords-clause-rest g c = λ bytes tells. ([], bytes, refl, tells)
+returns-in-Err-BadWords-clause-rest g c =
+    (untouched_input (drawn g.S.Source c.args.devices.now.input c.args.devices.now.input) refl).0
 
 pub returns-in-Err-BadWords-clause-tried : goal.returns-in-Err-BadWords-clause-tried
 returns-in-Err-BadWords-clause-tried g c =
@@ -85,7 +87,8 @@ returns-in-Err-NoMemory-clause-replied g c =
     λ command asks done. absurd (let x = sym c.of_status-in-Err-NoMemory.ensures.status ∙ done in cc)
 
 pub returns-in-Err-NoMemory-clause-rest : goal.returns-in-Err-NoMemory-clause-rest
-returns-in-Err-NoMemory-clause-rest g c = λ bytes tells. ([], bytes, refl, tells)
+returns-in-Err-NoMemory-clause-rest g c =
+    (untouched_input (drawn g.S.Source c.args.devices.now.input c.args.devices.now.input) refl).0
 
 pub returns-in-Err-NoMemory-clause-tried : goal.returns-in-Err-NoMemory-clause-tried
 returns-in-Err-NoMemory-clause-tried g c =
@@ -96,7 +99,7 @@ returns-in-Err-NoMemory-clause-tried g c =
 
 pub returns-in-Err-NoMemory-clause-script : goal.returns-in-Err-NoMemory-clause-script
 returns-in-Err-NoMemory-clause-script g c =
-    λ file asks. tail_same (g.S.Source.left c.args.devices.now.input) (g.S.Source.left c.args.devices.now.input) refl
+    λ file asks. untouched_input (drawn g.S.Source c.args.devices.now.input c.args.devices.now.input) refl
 
 pub perform-requires : goal.perform-requires
 perform-requires g c = record { blocks = λ n is. asked_blocks c.args.words.now n (c.in-Ok.ensures ∙ ap Some is) }

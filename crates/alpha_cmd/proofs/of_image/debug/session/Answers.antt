@@ -8,8 +8,9 @@ use Rattle.alpha_cmd.specs.CommandEffect.{CommandEffect}
 use Rattle.alpha_cmd.specs.OfImage.{on}
 use Rattle.alpha_cmd.proofs.StageEffects.{does_not_start}
 use Rattle.alpha_cmd.proofs.EndStatuses.{input_unended, said_unended}
+use Rattle.alpha_cmd.proofs.InputLeft.{untouched_input}
 use Rattle.alpha_cmd.proofs.SessionsTold.{session_decides, session_whole, session_unread, session_unwritten}
-use Rattle.alpha_cmd.proofs.SessionsTold.{Follows-LeavesTail, tail_same}
+use Rattle.alpha_cmd.proofs.SessionsTold.{script_left}
 use Rattle.alpha_cmd.proofs.of_image.debug.session.Goals as goal
 
 pub returns-in-Done : goal.returns-in-Done
@@ -26,7 +27,7 @@ returns-in-Done g c = record {
       c.args.image ends.Done c.of_status.result (inl refl)
       c.of_status.ensures.answer c.in-Done.ensures.effect;
   script =
-      Follows-LeavesTail c.args.image
+      script_left c.args.image
       (drawn g.S.Source c.args.devices.now.input c.debug.new.script) c.in-Done.ensures.effect.told
       c.in-Done.ensures.effect.follows;
 }
@@ -45,7 +46,7 @@ returns-in-TooLarge g c = record {
       c.args.image ends.TooLarge c.of_status-in-TooLarge.result (inr refl)
       c.of_status-in-TooLarge.ensures.answer c.in-TooLarge.ensures.effect;
   script =
-      Follows-LeavesTail c.args.image
+      script_left c.args.image
       (drawn g.S.Source c.args.devices.now.input c.debug.new.script) c.in-TooLarge.ensures.effect.told
       c.in-TooLarge.ensures.effect.follows;
 }
@@ -60,7 +61,7 @@ returns-in-InputFault g c = record {
       c.args.image c.of_status-in-InputFault.result
       c.of_status-in-InputFault.ensures.answer c.in-InputFault.ensures.effect;
   script =
-      Follows-LeavesTail c.args.image (drawn g.S.Source c.args.devices.now.input c.debug.new.script)
+      script_left c.args.image (drawn g.S.Source c.args.devices.now.input c.debug.new.script)
       c.in-InputFault.ensures.effect.told c.in-InputFault.ensures.effect.follows;
 }
 
@@ -73,7 +74,7 @@ returns-in-SinkFault g c = record {
       session_unwritten g.H.Shelf g.S.Source g.K.Sink g.N.Sink c.args.devices.now c.debug.new.script c.debug.new.out
       c.args.image _ c.in-SinkFault.ensures.effect;
   script =
-      Follows-LeavesTail c.args.image (drawn g.S.Source c.args.devices.now.input c.debug.new.script)
+      script_left c.args.image (drawn g.S.Source c.args.devices.now.input c.debug.new.script)
       c.in-SinkFault.ensures.effect.told c.in-SinkFault.ensures.effect.follows;
 }
 
@@ -93,7 +94,7 @@ returns-in-NoMemory-clause-does g c =
 
 pub returns-in-NoMemory-clause-script : goal.returns-in-NoMemory-clause-script
 returns-in-NoMemory-clause-script g c =
-    tail_same (g.S.Source.left c.args.devices.now.input) (g.S.Source.left c.debug.new.script)
+    untouched_input (drawn g.S.Source c.args.devices.now.input c.debug.new.script)
     (ap (λ (s : Supply). s.left) c.in-NoMemory.ensures.effect.0.left)
 
 pub returns-in-NoMemory-clause-ran : goal.returns-in-NoMemory-clause-ran
