@@ -7,3 +7,4 @@ mod Writable
 mod Memories
 pub mod LawLemmas
 pub mod Regions
+pub mod RegionAccess

@@ -6,7 +6,7 @@
 //! - [`Memory`] is a list of regions of bytes, each at an address of its own. Every region may be
 //!   read, and the writable ones may be written. Loads and stores are aligned and little-endian
 //!   (Architecture Handbook, sections 2.1 and 4.2); ranges of any length are read and written by
-//!   `bytes` and `write`.
+//!   `bytes` and `write`. A loop takes the list of [`Region`]s out by `take_regions` and puts it back.
 //! - [`Size`] is how many bytes a load or a store has, [`MemFault`] why one is refused. [`number_of`]
 //!   is the number that bytes are in memory.
 //! - The functions of `src/laws.rt` do nothing: their contracts are the laws of memory.
@@ -39,3 +39,4 @@ pub use laws::{
 };
 pub use memory::Memory;
 pub use number::number_of;
+pub use region::Region;

@@ -47,6 +47,25 @@ impl Memory {
         }
     }
 
+    /// Takes the regions out, and leaves a memory of none.
+    pub fn take_regions(&mut self) -> Vec<Region>
+        ensures regions { result.items ≡ self.old }
+        ensures good { IsMemory result.items }
+        ensures left { self.new ≡ [] }
+    {
+        let alloc = *self.regions.allocator();
+        std::mem::replace(&mut self.regions, Vec::new(alloc))
+    }
+
+    /// Puts these regions in the place of its own. They are those of a memory: at multiples of 16, apart, and at or
+    /// below 2 ^ 30.
+    pub fn put_regions(&mut self, regions: Vec<Region>)
+        requires { IsMemory regions.items }
+        ensures { self.new ≡ regions.items }
+    {
+        self.regions = regions;
+    }
+
     /// Adds a region at `base`: the bytes and then `zeroed` zeros. Its base is a multiple of 16, it ends at 2^30 at
     /// most, and it shares no address with another region. Stores may write it where it is `writable`. It copies the
     /// bytes. `NoMemory` changes nothing.

@@ -1,9 +1,10 @@
-ghost use Rattle.std.specs.Prelude.{◌≡◌, ◌+◌, ◌^◌, ◌≤◌, IsTrue, IfOk, length};
-ghost use Rattle.alpha_words.specs.Digits.{low_bytes};
+ghost use Rattle.std.specs.Prelude.{◌≡◌, ◌+◌, ◌%◌, ◌^◌, ◌≤◌, true, false, IsTrue, IfOk, IfSome, length};
+ghost use Rattle.alpha_words.specs.Digits.{little, low_bytes};
 ghost use Rattle.alpha_mem.specs.Size.{size_of};
 ghost use Rattle.alpha_mem.specs.Block.{shape_of, holds, part, overwritten, block};
 
 use crate::Size;
+use crate::number::number_of;
 use alpha_words::NoMemory;
 use std::alloc::Global;
 use std::marker::Model;
@@ -98,5 +99,48 @@ impl Region {
     {
         let low = value.to_le_bytes();
         self.put(addr, &low[..size.bytes() as usize]);
+    }
+
+    /// The little-endian number of the size's bytes at the address, extended with zeros (Architecture Handbook,
+    /// section 4.2). `None` where the address is no multiple of the size, or a byte lies outside the region.
+    #[inline(always)]
+    pub fn load(&self, addr: u64, size: Size) -> Option<u64>
+        ensures aligned { IfSome result (λ v. addr % size_of size ≡ 0) }
+        ensures within { IfSome result (λ v. holds (shape_of self.now) addr (size_of size) ≡ true) }
+        ensures value { IfSome result (λ v. v ≡ little (part self.now addr (size_of size))) }
+    {
+        let len = size.bytes();
+        if addr % len != 0 {
+            return None;
+        }
+        if !self.holds(addr, len) {
+            return None;
+        }
+        Some(number_of(self.part(addr, len)))
+    }
+
+    /// Writes the number's low bytes at the address, as many as the size says, the lowest first (Architecture
+    /// Handbook, section 4.2), and answers whether it did. It doesn't where the address is no multiple of the size, a
+    /// byte lies outside the region, or the region isn't writable.
+    #[inline(always)]
+    pub fn store(&mut self, addr: u64, size: Size, value: u64) -> bool
+        ensures aligned { result ≡ true → addr % size_of size ≡ 0 }
+        ensures within { result ≡ true → holds (shape_of self.old) addr (size_of size) ≡ true }
+        ensures writes { result ≡ true → self.old.writable ≡ true }
+        ensures value { result ≡ true → self.new ≡ overwritten self.old addr (low_bytes (size_of size) value) }
+        ensures refused { result ≡ false → self.new ≡ self.old }
+    {
+        let len = size.bytes();
+        if addr % len != 0 {
+            return false;
+        }
+        if !self.holds(addr, len) {
+            return false;
+        }
+        if !self.writable() {
+            return false;
+        }
+        self.put_number(addr, size, value);
+        true
     }
 }
