@@ -5,7 +5,9 @@ ghost use Rattle.alpha_quick.specs.Words.{HasFirst, HasBase, HasExpr, HasLastBas
 ghost use Rattle.alpha_quick.specs.Words.{HasPair, HasUnary, HasBinary, HasWrittenHint, HasHint, HasJump, HasTarget};
 ghost use Rattle.alpha_quick.specs.Words.{HasOffset, HasWords, HasDistance, HasAddress};
 
-use crate::words::{after_byte, after_close, after_comma, half, is_end, label, number, after_open, register};
+use crate::words::{
+    after_byte, after_close, after_comma, after_open, half, is_end, label, number, register,
+};
 use alpha_operands::{Expr, Half, Number, Piece, Sign, number_at, offset_at};
 use alpha_table::Src;
 use alpha_words::Reg;
