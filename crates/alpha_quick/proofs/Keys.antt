@@ -20,19 +20,19 @@ abbrev byte_limit : ℕ → ℕ
 byte_limit zero = 1
 byte_limit (suc n) = byte_limit n * 256
 
-abbrev plain : ℕ → ℕ → ℕ
-plain key byte = key * 256 + byte
+abbrev pub with_plain_byte : ℕ → ℕ → ℕ
+with_plain_byte key byte = key * 256 + byte
 
 limit_bound : (n : ℕ) → n < 8 → byte_limit n * 256 ≤ 2 ^ 64
 limit_bound (suc (suc (suc (suc (suc (suc (suc (suc n)))))))) h = absurd (omega arith)
 limit_bound n h = omega arith
 
-byte_bounds : (b : ℕ) → goes_on_name b ≡ true → (0 < b) × (b < 256)
+pub byte_bounds : (b : ℕ) → goes_on_name b ≡ true → (0 < b) × (b < 256)
 byte_bounds b h = (grind (arith, nat_tests), grind (arith, nat_tests))
 
 -- nothing is dropped of eight bytes
 fold_plain : (name : List ℕ) (n key : ℕ) → key < byte_limit n → n + length name ≤ 8 → list_all goes_on_name name ≡ true
-    → fold with_byte key name ≡ fold plain key name
+    → fold with_byte key name ≡ fold with_plain_byte key name
 fold_plain [] n key h room all = refl
 fold_plain (b ∷ bs) n key h room all =
     let (here, more) = and_parts (goes_on_name b) (list_all goes_on_name bs) all in
@@ -40,27 +40,27 @@ fold_plain (b ∷ bs) n key h room all =
     let top : byte_limit n * 256 ≤ 2 ^ 64 = limit_bound n (omega arith) in
     let same : (key * 256 % 2 ^ 64 + b) % 2 ^ 64 ≡ key * 256 + b = omega arith in
     let below : key * 256 + b < byte_limit n * 256 = omega arith in
-    ap (λ k. fold with_byte k bs) same ∙ fold_plain bs (suc n) (plain key b) below (omega arith) more
+    ap (λ k. fold with_byte k bs) same ∙ fold_plain bs (suc n) (with_plain_byte key b) below (omega arith) more
 
 -- the number of bytes, the last one first
-abbrev reversed_number : List ℕ → ℕ
+abbrev pub reversed_number : List ℕ → ℕ
 reversed_number [] = 0
 reversed_number (b ∷ bs) = b + reversed_number bs * 256
 
-fold_number : (name bs : List ℕ) → fold plain (reversed_number bs) name ≡ reversed_number (reverse_aux name bs)
+pub fold_number : (name bs : List ℕ) → fold with_plain_byte (reversed_number bs) name ≡ reversed_number (reverse_aux name bs)
 fold_number [] bs = refl
 fold_number (b ∷ name) bs =
     let same : reversed_number bs * 256 + b ≡ b + reversed_number bs * 256 = omega arith in
-    ap (λ k. fold plain k name) same ∙ fold_number name (b ∷ bs)
+    ap (λ k. fold with_plain_byte k name) same ∙ fold_number name (b ∷ bs)
 
-all_reversed : (name bs : List ℕ) → list_all goes_on_name name ≡ true → list_all goes_on_name bs ≡ true
+pub all_reversed : (name bs : List ℕ) → list_all goes_on_name name ≡ true → list_all goes_on_name bs ≡ true
     → list_all goes_on_name (reverse_aux name bs) ≡ true
 all_reversed [] bs h all = all
 all_reversed (b ∷ name) bs h all =
     let (here, more) = and_parts (goes_on_name b) (list_all goes_on_name name) h in
     all_reversed name (b ∷ bs) more (rw (here, all) refl)
 
-one_number : (a b : List ℕ) → list_all goes_on_name a ≡ true → list_all goes_on_name b ≡ true
+pub one_number : (a b : List ℕ) → list_all goes_on_name a ≡ true → list_all goes_on_name b ≡ true
     → reversed_number a ≡ reversed_number b
     → a ≡ b
 one_number [] [] f g e = refl
@@ -82,7 +82,7 @@ one_number (x ∷ xs) (y ∷ ys) f g e =
     let others : reversed_number xs ≡ reversed_number ys = omega arith in
     ap (λ z. z ∷ xs) first ∙ ap (λ zs. y ∷ zs) (one_number xs ys ps qs others)
 
-key_number : (name : List ℕ) → length name ≤ 8 → list_all goes_on_name name ≡ true
+pub key_number : (name : List ℕ) → length name ≤ 8 → list_all goes_on_name name ≡ true
     → key_of name ≡ reversed_number (reverse name)
 key_number name short all = fold_plain name 0 0 (omega arith) (omega arith) all ∙ fold_number name []
 

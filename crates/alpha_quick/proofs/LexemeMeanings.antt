@@ -1,7 +1,7 @@
 -- What a name and the words behind it say.
-use Rattle.std.proofs.Common.{◌≡◌, ◌⊎◌, ℕ, ℤ, pos, List, Option, Some, None, IfSome, Ok, refl, sym, ◌∙◌, ap, subst, inl}
+use Rattle.std.proofs.Common.{◌≡◌, ◌⊎◌, ℕ, ℤ, pos, List, Option, Some, None, IfSome, Ok, Err, refl, sym, ◌∙◌, ap, subst, inl}
 use Rattle.std.proofs.Common.{inr}
-use Rattle.std.specs.Prelude.{length, true, false}
+use Rattle.std.specs.Prelude.{length, true, false, Result, IfOk, IfErr}
 use Rattle.alpha_table.specs.Op.{op_row}
 use Rattle.alpha_table.specs.declared.names.Mnemonic.{Mnemonic}
 use Rattle.alpha_table.specs.declared.names.Mnemonic.TheVariants as mnemonics
@@ -51,6 +51,14 @@ meaning-slots o gives says = (o, gives, says)
 pub IfSome-implied : {A : Type 0} (P Q : A → Type 0) (r : Option A) → ((x : A) → P x → Q x) → IfSome r P → IfSome r Q
 IfSome-implied P Q None f h = h
 IfSome-implied P Q (Some x) f h = f x h
+
+pub IfOk-implied : {A E : Type 0} (P Q : A → Type 0) (r : Result A E) → ((x : A) → P x → Q x) → IfOk r P → IfOk r Q
+IfOk-implied P Q (Ok x) f h = f x h
+IfOk-implied P Q (Err e) f h = h
+
+pub IfErr-implied : {A E : Type 0} (P Q : E → Type 0) (r : Result A E) → ((e : E) → P e → Q e) → IfErr r P → IfErr r Q
+IfErr-implied P Q (Ok x) f h = h
+IfErr-implied P Q (Err e) f h = f e h
 
 -- what an instruction says its equal says
 pub if-insn : (m : Mnemonic) (line : List ℕ) (i : Form) (r : Option Form) → Says m line (code i) → IfSome r (λ j. j ≡ i)

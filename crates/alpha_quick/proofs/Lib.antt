@@ -3,3 +3,5 @@ mod CanonicalLines
 mod Keys
 mod LexemeMeanings
 mod Parts
+mod TerminatedLines
+mod NameWords

@@ -49,6 +49,17 @@ IsAfterLabel-says line text None s same has = ap line_of same ∙ has.1
 IsAfterLabel-says line text (Some label) s (rest, is, same, after) has =
     ap line_of same ∙ label_says label rest s is (ap statement_of after ∙ has.0)
 
+-- what stands behind a label of a text stands behind that of a line that says the same
+pub IsAfterLabel-same : (line text : List ℕ) (label : Option (List ℕ)) (rest : List ℕ) → tokens line ≡ tokens text
+    → IsAfterLabel text label rest → IsAfterLabel line label rest
+IsAfterLabel-same line text None rest same h = same ∙ h
+IsAfterLabel-same line text (Some label) rest same (after, is, front, behind) = (after, is, same ∙ front, behind)
+
+-- a line has the statement of a text that says the same
+pub HasStatement-same : (line text : List ℕ) → tokens line ≡ tokens text → (s : Stmt) → HasStatement text s
+    → HasStatement line s
+HasStatement-same line text same s (statement, whole) = (ap statement_of same ∙ statement, ap line_of same ∙ whole)
+
 -- a line without a label
 pub bare_line : {A : Type 0} (now : A → List ℕ) (line text : List ℕ) (label : Option A) → is_some label ≡ false
     → IsAfterLabel line (option_map now label) text → tokens line ≡ tokens text

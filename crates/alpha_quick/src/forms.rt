@@ -1,6 +1,6 @@
 //! The instruction that a name gives with the words behind it, where these stand as most programs write them. What is
 //! written otherwise is `None` here. Where the words name a label they are left to `reach.rt`.
-ghost use Rattle.std.specs.Prelude.{◌≡◌, List, ℕ, IfSome, true, false};
+ghost use Rattle.std.specs.Prelude.{◌≡◌, List, ℕ, IfSome, IfOk, IfErr, true, false};
 ghost use Rattle.alpha_table.specs.Op.{op_row};
 ghost use Rattle.alpha_table.specs.declared.names.Mnemonic.TheVariants as mnemonics;
 ghost use Rattle.alpha_table.specs.declared.op.OperandRule.TheVariants as rules;
@@ -8,10 +8,12 @@ ghost use Rattle.alpha_text.specs.declared.head.PseudoOp.TheVariants as owns;
 ghost use Rattle.alpha_text.specs.Statements.{code};
 ghost use Rattle.alpha_text.specs.SuffixWords.{Says};
 ghost use Rattle.alpha_quick.specs.Parts.{StandsFor, IsAlone};
-ghost use Rattle.alpha_quick.specs.InsnPrefix.{PrefixSays};
+ghost use Rattle.alpha_quick.specs.InsnPrefix.{PrefixSays, HasStatement};
+ghost use Rattle.alpha_quick.specs.Prescanned.{IsPrescanned};
 ghost use Rattle.alpha_quick.specs.Words.{HasFirst};
 
 use crate::groups::{binary, distance, first, jump, last, last_base, pair, tail, unary};
+use crate::line::Prescanned;
 use crate::words::{after_comma, is_end, number, signed_number};
 use alpha_operands::{Number, Piece, Sign, number_at};
 use alpha_table::{BranchOp, Form, Insn, JumpKind, MemOp, Mnemonic, Op, OperandRule, Src};
@@ -33,7 +35,7 @@ pub(crate) struct InsnPrefix<'a> {
 }
 
 impl<'a> InsnPrefix<'a> {
-    // An instruction that reaches no label.
+    /// An instruction that reaches no label.
     #[inline(always)]
     pub(crate) fn without_label(insn: Insn, end: &'a [u8]) -> InsnPrefix<'a>
         ensures insn { result.insn ≡ insn }
@@ -46,9 +48,9 @@ impl<'a> InsnPrefix<'a> {
         }
     }
 
-    // An instruction that is to reach the label of these words.
+    /// An instruction that is to reach the label of these words.
     #[inline(always)]
-    fn toward_label(insn: Insn, left: &'a [u8]) -> InsnPrefix<'a>
+    pub(crate) fn toward_label(insn: Insn, left: &'a [u8]) -> InsnPrefix<'a>
         ensures insn { result.insn ≡ insn }
         ensures reaches { result.reaches ≡ true }
         ensures left { result.left.now ≡ left.now }
@@ -57,6 +59,24 @@ impl<'a> InsnPrefix<'a> {
             insn,
             reaches: true,
             left,
+        }
+    }
+
+    /// The instruction, if it reaches no label, or its line as far as it was read.
+    #[inline(always)]
+    pub(crate) fn insn_alone(&self) -> Result<Insn, Prescanned<'a>>
+        ensures ok { IfOk result (λ i. (line : List ℕ) → PrefixSays (HasStatement line) self.now
+            → HasStatement line (code i)) }
+        ensures left { IfErr result (λ p. (line : List ℕ) → PrefixSays (HasStatement line) self.now
+            → IsPrescanned line p) }
+    {
+        if self.reaches {
+            Err(Prescanned {
+                insn: Some(self.insn),
+                left: self.left,
+            })
+        } else {
+            Ok(self.insn)
         }
     }
 }
@@ -141,14 +161,17 @@ fn branch_with_link<'a>(op: BranchOp, ra: Reg, words: &'a [u8]) -> Option<InsnPr
     }
 }
 
-// A branch to a label, where no register is written.
+/// A branch to a label, where no register is written.
 #[inline(always)]
-fn branch_without_link(op: BranchOp, words: &[u8]) -> Option<InsnPrefix<'_>>
+pub(crate) fn branch_without_link(op: BranchOp, words: &[u8]) -> Option<InsnPrefix<'_>>
     ensures { IfSome result (PrefixSays (Says (mnemonics.Branch op) words.now)) }
 {
     let ra = link(op);
     match op {
-        BranchOp::Br | BranchOp::Bsr => Some(InsnPrefix::toward_label(Insn::branch(op, ra, 0), words)),
+        BranchOp::Br | BranchOp::Bsr => Some(InsnPrefix::toward_label(
+            Insn::branch(op, ra, 0),
+            words,
+        )),
         _ => None,
     }
 }
@@ -274,10 +297,10 @@ fn name_alone(row: Mnemonic, form: Form, words: &[u8]) -> Option<Insn>
     if is_end(words) { Insn::of(form) } else { None }
 }
 
-// The instruction that a row's name gives with the words behind it, for rows that few lines have. Those of
-// the others are read in `of_row`.
+/// The instruction that a row's name gives with the words behind it, for rows that few lines have. Those of
+/// the others are read in `of_row`.
 #[inline(never)]
-fn of_rare_row(row: Mnemonic, words: &[u8]) -> Option<Insn>
+pub(crate) fn of_rare_row(row: Mnemonic, words: &[u8]) -> Option<Insn>
     ensures { IfSome result (λ i. Says row words.now (code i)) }
 {
     match row {

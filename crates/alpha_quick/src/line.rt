@@ -1,6 +1,6 @@
 //! Lines as programs write them, read in one pass: blanks, a label, a name, and the words behind it. What is
 //! written otherwise is left to the reader of all lines.
-ghost use Rattle.std.specs.Prelude.{◌≡◌, ◌≤◌, ◌++◌, IfSome, IfOk, IfErr, Ok, length, true};
+ghost use Rattle.std.specs.Prelude.{◌≡◌, ◌≤◌, ◌++◌, IfSome, IfOk, IfErr, Ok, Some, length, true};
 ghost use Rattle.std.specs.List.{list_all};
 ghost use Rattle.std.specs.Option.{option_map};
 ghost use Rattle.alpha_token.specs.Bytes.{goes_on_label};
@@ -13,6 +13,7 @@ ghost use Rattle.alpha_quick.specs.Keys.{key_of, IsKeyed};
 ghost use Rattle.alpha_quick.specs.Parts.{SaysNamed, unlabelled};
 ghost use Rattle.alpha_quick.specs.InsnPrefix.{PrefixSays, HasStatement};
 ghost use Rattle.alpha_quick.specs.Unparsed.{IsAfterLabel, IsUnparsed};
+ghost use Rattle.alpha_quick.specs.Prescanned.{LeavesRest, IsPrescanned};
 ghost use Rattle.alpha_quick.specs.Words.{HasEnd};
 
 use crate::data::of_directive;
@@ -189,16 +190,59 @@ impl<'a> Unparsed<'a> {
     }
 }
 
-/// The instruction of a line that has no label and names none, or the line as far as it was read, which may have such
-/// an instruction too.
+// The item of a line without a label, by its instruction and the words of the label that this is to reach.
+#[tactic(auto, unfolding(alpha_text::specs::Reading::read))]
 #[inline(always)]
-pub fn read_insn(line: &[u8]) -> Result<Insn, Unparsed<'_>>
+fn item_with_label<'a>(line: &'a [u8], insn: Insn, left: &'a [u8]) -> Result<Item<'a>, LineFault>
+    requires read { LeavesRest line.now (Some insn) left.now }
+    requires size { length line.now ≤ 1024 }
+    ensures { Gives line_stmt_of result (read line.now) }
+{
+    match with_label(insn, left) {
+        Some(statement) => Ok(Item {
+            label: None,
+            statement,
+        }),
+        None => alpha_text::read_line(line),
+    }
+}
+
+/// A line of which no instruction alone was read by places, as far as it was read.
+#[derive(Clone, Copy)]
+pub struct Prescanned<'a> {
+    // The instruction at the front of it, if it is one that is to reach a label.
+    pub(crate) insn: Option<Insn>,
+    // The words that name that label, or else the text that says what the line does.
+    pub(crate) left: &'a [u8],
+}
+
+impl<'a> Prescanned<'a> {
+    /// The item of the line, or its first fault: the one at the least column, and at one column of the
+    /// least kind.
+    #[inline(always)]
+    pub fn item(&self, line: &'a [u8]) -> Result<Item<'a>, LineFault>
+        requires read { IsPrescanned line.now self.now }
+        requires size { length line.now ≤ 1024 }
+        ensures { Gives line_stmt_of result (read line.now) }
+    {
+        match self.insn {
+            Some(insn) => item_with_label(line, insn, self.left),
+            None => read_line_by_text(line, self.left),
+        }
+    }
+}
+
+// The instruction of a line that has no label and names none, by a text that says what the line does, or the line as
+// far as it was read.
+#[inline(always)]
+fn read_text<'a>(line: &'a [u8], text: &'a [u8]) -> Result<Insn, Unparsed<'a>>
+    requires { tokens line.now ≡ tokens text.now }
     ensures line { IfOk result (λ i. line_of (tokens line.now) ≡ Ok (unlabelled i)) }
     ensures statement { IfOk result (λ i. statement_of (tokens line.now) ≡ Ok (code i)) }
     ensures rest { IfErr result IsUnparsed }
     ensures same { IfErr result (λ rest. rest.line.now ≡ line.now) }
 {
-    let cut = SplitLine::of(line);
+    let cut = SplitLine::of(text);
     let (label, front) = (cut.label, cut.lexeme);
     let whole = front.with_trap(cut.text);
     match insn_prefix_of(&whole) {
@@ -227,19 +271,41 @@ pub fn read_insn(line: &[u8]) -> Result<Insn, Unparsed<'_>>
     }
 }
 
-/// The item of a line, or its first fault: the one at the least column, and at one column of the
-/// least kind.
+/// The instruction of a line that has no label and names none, or the line as far as it was read, which may have such
+/// an instruction too.
+#[inline(always)]
+pub fn read_insn(line: &[u8]) -> Result<Insn, Unparsed<'_>>
+    ensures line { IfOk result (λ i. line_of (tokens line.now) ≡ Ok (unlabelled i)) }
+    ensures statement { IfOk result (λ i. statement_of (tokens line.now) ≡ Ok (code i)) }
+    ensures rest { IfErr result IsUnparsed }
+    ensures same { IfErr result (λ rest. rest.line.now ≡ line.now) }
+{
+    read_text(line, line)
+}
+
+// The item of a line, or its first fault, by a text that says what the line does.
 #[tactic(auto, unfolding(alpha_text::specs::Reading::read))]
 #[inline(always)]
-pub fn read_line(line: &[u8]) -> Result<Item<'_>, LineFault>
-    requires { length line.now ≤ 1024 }
+fn read_line_by_text<'a>(line: &'a [u8], text: &'a [u8]) -> Result<Item<'a>, LineFault>
+    requires same { tokens line.now ≡ tokens text.now }
+    requires size { length line.now ≤ 1024 }
     ensures value { Gives line_stmt_of result (read line.now) }
 {
-    match read_insn(line) {
+    match read_text(line, text) {
         Ok(insn) => Ok(Item {
             label: None,
             statement: Statement::Code(insn),
         }),
         Err(rest) => rest.item(),
     }
+}
+
+/// The item of a line, or its first fault: the one at the least column, and at one column of the
+/// least kind.
+#[inline(always)]
+pub fn read_line(line: &[u8]) -> Result<Item<'_>, LineFault>
+    requires { length line.now ≤ 1024 }
+    ensures value { Gives line_stmt_of result (read line.now) }
+{
+    read_line_by_text(line, line)
 }

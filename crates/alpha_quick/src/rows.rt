@@ -263,9 +263,9 @@ static PLACES: [u8; 1024] = [
     255, 255, 255, 255, 255, 255, 255, 29, 255,
 ];
 
-// The place of the one name that can have this key.
+/// The place of the one name that can have this key.
 #[inline(always)]
-fn place_of(key: NameKey) -> Option<usize> {
+pub(crate) fn place_of(key: NameKey) -> Option<usize> {
     let slot = key.0.wrapping_mul(MULTIPLIER) >> 54;
     let place = *PLACES.get(slot as usize)?;
     Some(usize::from(place))
@@ -285,6 +285,14 @@ fn row_in(rows: &[KeyedRow], place: usize, key: NameKey) -> Option<Mnemonic>
     }
 }
 
+/// The row at a place, where its name has this key.
+#[inline(always)]
+pub(crate) fn row_at(place: usize, key: NameKey) -> Option<Mnemonic>
+    ensures { IfSome result (λ m. IsTrue (is_named (name_of m) key.0)) }
+{
+    row_in(&ROWS, place, key)
+}
+
 /// The row of a name, by its key. `None` may also stand for a name that has one.
 #[inline(always)]
 pub(crate) fn row_named(name: &[u8], key: NameKey) -> Option<Mnemonic>
@@ -300,7 +308,14 @@ pub(crate) fn row_named(name: &[u8], key: NameKey) -> Option<Mnemonic>
 pub(crate) fn pseudo_op_named(name: &[u8], key: NameKey) -> Option<PseudoOp>
     ensures { IfSome result (λ own. pseudo_op_name own ≡ name.now) }
 {
-    let pseudo_op = *PSEUDO_OPS.get(place_of(key)?.checked_sub(ROWS.len())?)?;
+    pseudo_op_at(name, place_of(key)?)
+}
+
+/// The same by the place of the key.
+pub(crate) fn pseudo_op_at(name: &[u8], place: usize) -> Option<PseudoOp>
+    ensures { IfSome result (λ own. pseudo_op_name own ≡ name.now) }
+{
+    let pseudo_op = *PSEUDO_OPS.get(place.checked_sub(ROWS.len())?)?;
     if pseudo_op.name() == name {
         Some(pseudo_op)
     } else {

@@ -24,9 +24,9 @@ pub(crate) fn after_blanks(s: &[u8]) -> &[u8]
     }
 }
 
-// Whether no letter and no digit goes on a word here.
+/// Whether no letter and no digit goes on a word here.
 #[inline(always)]
-fn ends_word(s: &[u8]) -> bool
+pub(crate) fn ends_word(s: &[u8]) -> bool
     ensures { IsTrue result → BeginsWithout is_ascii_alphanumeric s.now }
 {
     match s {
@@ -159,9 +159,9 @@ pub(crate) fn after_close(s: &[u8]) -> Option<&[u8]>
     }
 }
 
-// Whether the line ends behind blanks, or its comment begins there.
+/// Whether the line ends behind blanks, or its comment begins there.
 #[inline(never)]
-fn ends_after_blanks(s: &[u8]) -> bool
+pub(crate) fn ends_after_blanks(s: &[u8]) -> bool
     ensures { IsTrue result → HasEnd s.now }
 {
     match without_blanks(s) {
