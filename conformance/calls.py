@@ -5,7 +5,6 @@ import re
 import select
 import shlex
 import signal
-import subprocess
 import time
 from collections import namedtuple
 
@@ -14,6 +13,11 @@ Ran = namedtuple("Ran", "status out notes")
 MOST, PIECE, PAUSE = 16 * 1024 * 1024, 65_536, 0.05
 # What a file of an emulator may have: the most that a journal has, and a little more.
 MOST_FILE = 34 * 1024 * 1024
+NAME = re.compile(r"\{(\w+)\}")
+# Python ignores these signals, and a command has them as others do.
+IGNORED = [getattr(signal, name) for name in ("SIGPIPE", "SIGXFSZ") if hasattr(signal, name)]
+# How long a command that has closed its outputs is first waited for, and how long at most between two looks.
+FIRST_LOOK, LAST_LOOK = 0.0002, 0.02
 
 
 def limit_files():
@@ -29,71 +33,109 @@ def limit_files():
 split = functools.lru_cache(shlex.split)
 
 
+@functools.lru_cache(maxsize=None)
+def environment():
+    """The environment of all commands, as it is at the first one."""
+    return dict(os.environb)
+
+
 def words_of(command, names):
     """The words of a command line, with what its names in braces stand for."""
-    return [re.sub(r"\{(\w+)\}", lambda found: str(names.get(found[1], found[0])), word) for word in split(command)]
+    return [NAME.sub(lambda found: str(names.get(found[1], found[0])), word) if "{" in word else word
+            for word in split(command)]
 
 
 def call(words, pieces, seconds):
     """What a command did over an input of these pieces. Each but the first comes a moment later."""
-    try:
-        child = subprocess.Popen(words, stdin=subprocess.PIPE, stdout=subprocess.PIPE, stderr=subprocess.PIPE,
-                                 bufsize=0, start_new_session=True)
-    except OSError as error:
-        return Ran(None, b"", f"{words[0]}: {error.strerror}")
-    with child:
-        parts, why = Talk(child, pieces, time.monotonic() + seconds).all()
-        if why is not None:
-            stop(child)
-            return Ran(None, b"", why if why != "late" else f"no end within {seconds:g} seconds")
+    end = time.monotonic() + seconds
+    with Pipes(pieces) as pipes:
         try:
-            status = child.wait(timeout=seconds)
-        except subprocess.TimeoutExpired:
+            child = pipes.start(words)
+        except OSError as error:
+            return Ran(None, b"", f"{words[0]}: {error.strerror}")
+        parts, why = pipes.all(end)
+        status = wait(child, end) if why is None else None
+        if status is None:
             stop(child)
-            return Ran(None, b"", f"no end within {seconds:g} seconds")
+            return Ran(None, b"", why or f"no end within {seconds:g} seconds")
     return Ran(status, parts[0], parts[1].decode("utf-8", "replace"))
+
+
+def wait(child, end):
+    """The status of a command that has closed its outputs, or None where it goes on until the time is up."""
+    pause = FIRST_LOOK
+    while True:
+        number, status = os.waitpid(child, os.WNOHANG)
+        if number:
+            return os.waitstatus_to_exitcode(status)
+        if time.monotonic() > end:
+            return None
+        time.sleep(pause)
+        pause = min(2 * pause, LAST_LOOK)
 
 
 def stop(child):
     """Ends the command, and what it has started."""
     try:
-        os.killpg(child.pid, signal.SIGKILL)
+        os.killpg(child, signal.SIGKILL)
     except (OSError, PermissionError):
-        child.kill()
+        os.kill(child, signal.SIGKILL)
+    os.waitpid(child, 0)
 
 
-class Talk:
-    """Writes the input of a command and reads what it writes."""
+class Pipes:
+    """Writes the input of a command and reads what it writes. The first piece is written before the command is
+    started, as far as the pipe takes it, so that most commands need no further look."""
 
-    def __init__(self, child, pieces, end):
-        self.child, self.end = child, end
+    def __init__(self, pieces):
         self.pieces, self.at, self.free = [memoryview(piece) for piece in pieces], 0, 0.0
-        self.found = {child.stdout.fileno(): [], child.stderr.fileno(): []}
-        self.sizes = dict.fromkeys(self.found, 0)
-        self.poll = select.poll()
-        for number in self.found:
-            self.poll.register(number, select.POLLIN | select.POLLHUP)
-        os.set_blocking(child.stdin.fileno(), False)
+        self.ours, self.theirs = [], []
+        for is_input in (True, False, False):
+            reader, writer = os.pipe()
+            self.ours.append(writer if is_input else reader)
+            self.theirs.append(reader if is_input else writer)
+        os.set_blocking(self.ours[0], False)
+        self.is_writing = self.write()
 
-    def all(self):
-        """All that it writes to both, and None; or why it must be stopped."""
-        outputs, open_count, is_writing = list(self.found), 2, True
-        while open_count:
-            is_writing = is_writing and self.write()
-            left = self.end - time.monotonic()
+    def __enter__(self):
+        return self
+
+    def __exit__(self, *_):
+        for number in self.ours + self.theirs:
+            os.close(number)
+
+    def start(self, words):
+        """Starts the command as a group of its own."""
+        child = os.posix_spawnp(words[0], words, environment(), setpgroup=0, setsigdef=IGNORED,
+                                file_actions=[(os.POSIX_SPAWN_DUP2, number, at)
+                                              for at, number in enumerate(self.theirs)])
+        while self.theirs:
+            os.close(self.theirs.pop())
+        return child
+
+    def all(self, end):
+        """All that it writes to both, and None; or why it must be stopped. A reason of "" is the time."""
+        found = {number: [] for number in self.ours[-2:]}
+        sizes, poll = dict.fromkeys(found, 0), select.poll()
+        for number in found:
+            poll.register(number, select.POLLIN | select.POLLHUP)
+        outputs = list(found)
+        while sizes:
+            self.is_writing = self.is_writing and self.write()
+            left = end - time.monotonic()
             if left <= 0:
-                return None, "late"
-            wait = min(left, PAUSE if is_writing else left)
-            for number, _ in self.poll.poll(1000 * wait):
+                return None, ""
+            for number, _ in poll.poll(1000 * (min(left, PAUSE) if self.is_writing else left)):
                 content = os.read(number, PIECE)
+                found[number].append(content)
                 if not content:
-                    self.poll.unregister(number)
-                    open_count -= 1
-                self.found[number].append(content)
-                self.sizes[number] += len(content)
-                if self.sizes[number] > MOST:
+                    poll.unregister(number)
+                    del sizes[number]
+                    continue
+                sizes[number] += len(content)
+                if sizes[number] > MOST:
                     return None, f"it wrote more than {MOST:,} bytes, and was stopped"
-        return [b"".join(self.found[number]) for number in outputs], None
+        return [b"".join(found[number]) for number in outputs], None
 
     def write(self):
         """Writes what the command takes now; whether there is more."""
@@ -101,7 +143,7 @@ class Talk:
             while self.pieces:
                 if time.monotonic() < self.free:
                     return True
-                self.at += (os.write(self.child.stdin.fileno(), self.pieces[0][self.at:self.at + PIECE])
+                self.at += (os.write(self.ours[0], self.pieces[0][self.at:self.at + PIECE])
                             if len(self.pieces[0]) > self.at else 0)
                 if self.at >= len(self.pieces[0]):
                     del self.pieces[0]
@@ -110,7 +152,7 @@ class Talk:
             return True
         except BrokenPipeError:
             pass
-        self.child.stdin.close()
+        os.close(self.ours.pop(0))
         return False
 
 

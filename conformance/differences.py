@@ -1,6 +1,7 @@
 """What is otherwise between what an emulator wrote and what it should have written, in a line, and lines that say
 where."""
 import functools
+import re
 from collections import Counter
 
 import rows
@@ -10,6 +11,8 @@ import telling
 STATUSES = {"exit": 0, "steps": 6, "lost": 7}
 ENDED = 5
 MOST_OFTEN = 4
+# A barrier with its lines, of which `cut` makes one part.
+BARRIER = re.compile(r"^barrier .*\n(?:.*\n){8}", re.M)
 ENDS = ("exit", "signal", "fetch", "access", "align", "stop", "steps", "lost")
 
 
@@ -39,12 +42,20 @@ def wanted_status(end):
 
 def cut(notes):
     """The notes in parts: overflows and barriers, each with its lines, and the end."""
-    found, lines = [], notes.splitlines()
-    while lines:
-        count = 9 if lines[0].startswith("barrier ") else 1
-        found.append(lines[:count])
-        lines = lines[count:]
+    found, lines, at = [], notes.splitlines(), 0
+    while at < len(lines):
+        count = 9 if lines[at].startswith("barrier ") else 1
+        found.append(lines[at:at + count])
+        at += count
     return found
+
+
+def is_right(ran, wanted, output):
+    """Whether a run did all that is wanted, so that nothing need be looked for. Where no line that is wanted begins with
+    `barrier`, nothing is said of barriers."""
+    if ran.status != wanted_status(last(wanted)) or ran.out != output:
+        return False
+    return ran.notes == wanted or "barrier " not in wanted and BARRIER.sub("", ran.notes) == wanted
 
 
 def of_parts(notes, parts, with_barriers):

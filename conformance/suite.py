@@ -7,7 +7,7 @@ from collections import namedtuple
 import calls
 import packed
 import telling
-from differences import ENDS, Told, end_difference, is_end, last, notes_difference, output_difference, wanted_status
+from differences import ENDS, Told, end_difference, is_end, is_right, last, notes_difference, output_difference, wanted_status
 
 HERE = os.path.dirname(os.path.abspath(__file__))
 Line = namedtuple("Line", "file kind image completion steps answer origin about")
@@ -91,6 +91,8 @@ class Suite:
         """The first difference between what a run wrote and what it should have, or None."""
         if ran.status is None:
             return Told(ran.notes)
+        if is_right(ran, wanted, output):
+            return None
         parts, how = self.options.parts, calls.end_text(ran.status)
         crashed = f"; {how}" if ran.status < 0 or ran.status not in (0, 5, 6, 7) else ""
         lines = telling.Lines(line.image, line.completion, given, line.kind == "late")

@@ -50,6 +50,7 @@ int main(int count, char **words)
     u64 steps = 100000000;
     const char *names[3] = {0};
     int named = 0, is_late = 0;
+    setvbuf(stderr, NULL, _IOFBF, 65536); /* notes are many short lines */
     for (int n = 1; n < count; n++) {
         if (!strcmp(words[n], "--watch"))
             is_watched = 1;
