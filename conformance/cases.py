@@ -160,6 +160,11 @@ def values():
                                *[1 << n for n in (8, 16, 31, 32, 33, 47, 62)], -(1 << 32), 1 << 32 | 1]])
 
 
+def bits():
+    """Each bit alone, and all above it."""
+    return rows([(value, value, 3) for n in range(64) for value in (1 << n, -1 << n)])
+
+
 def quadwords(*values):
     return b"".join(struct.pack("<Q", value % (1 << 64)) for value in values)
 
@@ -174,7 +179,7 @@ CASES = {
     "values-extracts": PLAIN._replace(given=shifts(), is_watched=False),
     "values-masks": PLAIN._replace(given=shifts(), is_watched=False),
     "values-features": PLAIN._replace(given=shifts(), is_watched=False),
-    "values-counts": PLAIN._replace(given=pairs(), is_watched=False),
+    "values-counts": PLAIN._replace(given=pairs() + bits(), is_watched=False),
     "values-products": PLAIN._replace(given=bounds(), is_watched=False, completions=("wrap", "saturate")),
     **{f"values-forms-{name}": PLAIN._replace(given=few(), is_watched=False) for name in FORMS},
     "values-forms-triggers": PLAIN._replace(given=few(), is_watched=False, completions=("wrap", "saturate")),
@@ -190,6 +195,7 @@ CASES = {
                                 given=quadwords(5, 1 << 62, 1 << 62, -7, (1 << 63) - 1, -3, 0x80000000, 1 << 63, 12)
                                 + b"end"),
     "end-loop": PLAIN._replace(steps=10),
+    "end-long": PLAIN._replace(steps=70_000, is_watched=False),
     "end-stop": PLAIN._replace(completions=ALL, journals=SOME),
     "end-exit": PLAIN._replace(journals=("1",)),
     "end-bpt": PLAIN._replace(journals=("1",)),

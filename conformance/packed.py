@@ -8,6 +8,8 @@ HERE = os.path.dirname(os.path.abspath(__file__))
 PATH = os.path.join(HERE, "cases.tsv")
 # `given` is the input, in pieces; of an image its bytes. `journal` is of late and refuse alone, `choices` of late.
 Case = namedtuple("Case", "file kind image completion steps answer about given choices journal output")
+# The place of the answer in a line, and how many characters of it are packed.
+ANSWER, LONG = 5, 10_000
 HEAD = """# The small cases of the suite, one a line, with tabs between the columns; - stands for nothing. \
 conformance/README.md says how
 # they are run. The columns:
@@ -24,7 +26,7 @@ conformance/README.md says how
 # journal     the journal
 # output      what the run puts
 #
-# Bytes are hexadecimal digits, or behind a z base64 of what zlib has packed.
+# Bytes are hexadecimal digits, or behind a z base64 of what zlib has packed. So is a very long answer.
 #
 # run         the image is run over the input
 # image       its bytes are no image, by the line of the answer, or they are one, which is run over an empty input
@@ -35,10 +37,11 @@ conformance/README.md says how
 
 def text_of(content):
     """Bytes as text, the shorter way."""
-    if not content:
-        return "-"
-    packed = "z" + base64.urlsafe_b64encode(zlib.compress(content, 9)).decode("ascii")
-    return min(content.hex(), packed, key=len)
+    return min(content.hex(), packed_text(content), key=len) if content else "-"
+
+
+def packed_text(content):
+    return "z" + base64.urlsafe_b64encode(zlib.compress(content, 9)).decode("ascii")
 
 
 def bytes_of(text):
@@ -50,12 +53,14 @@ def bytes_of(text):
 def line_of(case):
     """A case as its line."""
     *told, given, choices, journal, output = case
+    told[ANSWER] = told[ANSWER] if len(told[ANSWER]) < LONG else packed_text(told[ANSWER].encode("ascii"))
     data = ["+".join(map(text_of, given)), *map(text_of, (choices, journal, output))]
     return "\t".join([*map(str, told), *data])
 
 
 def case_of(line):
     *told, given, choices, journal, output = line.rstrip("\n").split("\t")
+    told[ANSWER] = bytes_of(told[ANSWER]).decode("ascii") if told[ANSWER].startswith("z") else told[ANSWER]
     return Case(*told, [bytes_of(piece) for piece in given.split("+")], *map(bytes_of, (choices, journal, output)))
 
 

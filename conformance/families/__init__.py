@@ -1,13 +1,13 @@
 """The small cases of the suite, by families: what stands in sources/ beside them, and a row of cases.tsv for each."""
 import functools
 
-from . import following, images, late, runs, state
+from . import edges, following, images, late, runs, state, waiting
 
 
 @functools.lru_cache
 def all_blocks():
     """The images of blocks."""
-    return [made for family in (late, following, runs, state) for made in family.families()]
+    return [made for family in (late, following, runs, state, waiting) for made in family.families()]
 
 
 @functools.lru_cache
@@ -19,4 +19,4 @@ def sources():
 def rows():
     """All rows."""
     return ([row for made in all_blocks() for row in made.rows] + list(runs.reader_rows()) + list(state.first_rows())
-            + list(images.rows()))
+            + list(images.rows()) + list(edges.rows()))

@@ -187,11 +187,12 @@ start:  ldah $9,0x1000($31)
         lda $0,4($31)
         lda $16,1($31)
         callsys
+        mov $0,$20
         lda $0,3($31)           # and once more, at the end of the input
         clr $16
         callsys
         trapb
-        clr $16
+        subq $20,$0,$16
         lda $0,1($31)
         callsys
         .entry start
