@@ -202,7 +202,7 @@ class Suite:
         try:
             whole = content(journal)
             is_accepted = self.images[line.image].answer == "accepted"
-            return (self.recorded(line, whole, said, given) or told_of_record(line, ran, whole, is_accepted)
+            return (self.recorded(line, whole, said, given) or told_of_record(line, ran, whole, is_accepted, seed)
                     or status_difference(ran.status, end_of(whole)))
         except (struct.error, IndexError, ValueError):
             return Told("the judge accepts it, and it is no journal (docs/journals.md)")
@@ -372,8 +372,19 @@ def refusal_difference(ran, wanted):
     return Told(f"`{said}`, and `{wanted}` is wanted") if said.startswith("image kind") and said != wanted else None
 
 
-def told_of_record(line, ran, whole, is_accepted):
-    """What is wrong with the lines that an emulator writes while it records, where it writes any."""
+def logged_count(whole):
+    """How many overflows a journal's run logs: each report, but for one that ends it."""
+    _, _, ending, _, _, taken, put, _ = HEAD.unpack_from(whole)
+    at, reports = HEAD.size + taken + put, 0
+    while at < len(whole):
+        reports += whole[at] == REPORT
+        at += ITEMS[whole[at]]
+    return reports - (ending in (LOST, STOPPED))
+
+
+def told_of_record(line, ran, whole, is_accepted, seed):
+    """What is wrong with the lines that an emulator writes while it records, where it writes any. The addresses of a
+    refused image's overflows are followed for the first seed; for others as many lines as reports must be told."""
     lines = ran.notes.splitlines()
     if not any(one.startswith("overflow ") or is_end(one) for one in lines):
         return None
@@ -381,7 +392,7 @@ def told_of_record(line, ran, whole, is_accepted):
     if is_accepted:
         want = [one for one in content(line.file).decode("ascii").splitlines() if one.startswith("overflow ")]
     else:
-        logged = telling.logged(line.image, whole)
+        logged = telling.logged(line.image, whole) if seed == 1 or len(have) != logged_count(whole) else None
         want = have if logged is None else [f"overflow {address:016x}" for address in logged]
     if have != want:
         at = next((n for n, (one, other) in enumerate(zip(have, want)) if one != other), min(len(have), len(want)))
