@@ -43,16 +43,16 @@ def of_operates():
     for name, code in CODES.items():
         here = f"(w->opcode << 8 | w->function) == {code:#x}"
         there = here.replace("w->", "w.")
-        late = f"while a trap is pending `{name}` leaves"
+        late, told = f"while a trap is pending `{name}` leaves", name.replace("/", "-")
         yield Fault(f"late-result-{name}", "late", f"{late} its result", EXECUTED,
-                    EXECUTED.replace("drawn ?", f"drawn && !({here}) ?"), "late-words")
+                    EXECUTED.replace("drawn ?", f"drawn && !({here}) ?"), f"late-words.{told}")
         yield Fault(f"late-other-{name}", "late", f"{late} what there was", EXECUTED,
-                    f"if (!drawn || !({here})) {EXECUTED}", "late-words")
+                    f"if (!drawn || !({here})) {EXECUTED}", f"late-words.{told}")
         yield Fault(f"late-report-{name}", "late", f"a trap can't wait at `{name}`", WAITING,
-                    WAITING.replace("return ", f"return !({there}) && "), "late-words")
+                    WAITING.replace("return ", f"return !({there}) && "), f"late-words.{told}")
         if name not in TRAPPING:
             yield Fault(f"scan-counts-{name}", "late", f"the handler counts the destination of `{name}`", COUNTED,
-                        COUNTED.replace("w.kind == TRAPPING", f"w.kind == TRAPPING || {there}"), "late-masks")
+                        COUNTED.replace("w.kind == TRAPPING", f"w.kind == TRAPPING || {there}"), f"late-masks-by-word.{told}")
         yield Fault(f"flag-{name}", "runs", f"`{name}` clears the lock flag", EXECUTED,
                     f"{{ {EXECUTED} if ({here}) m.is_locked = 0; }}", "answers/values-flags")
         yield Fault(f"none-{name}", "values", f"`{name}` into $31 is kept", EXECUTED,
@@ -106,10 +106,11 @@ def of_triggers():
                         f"note_overflow", "answers/completions")
         yield Fault(f"scan-only-over-{name}", "late", f"the handler counts `{name}` only where it overflows", COUNTED,
                     COUNTED.replace("w.kind == TRAPPING", f"w.kind == TRAPPING && (!({there}) || overflows(&w))"),
-                    "late-")
+                    "late-masks-by-word")
         yield Fault(f"late-exact-{name}", "late", f"`{name}` isn't logged where it no longer overflows",
                     "    note_overflow(address);",
-                    f"    if (!({there}) || overflows(&w)) note_overflow(address);", "late-completed")
+                    f"    if (!({there}) || overflows(&w)) note_overflow(address);",
+                    f"late-completed.{name.replace('/', '')}")
 
 
 def of_accesses():
@@ -145,19 +146,20 @@ def of_accesses():
         for key, (group, what, right, wrong) in edits.items():
             equal = "its address is always a multiple" if unaligned and key in ("odd", "half", "region-first") else None
             equal = equal or ("a byte is its first" if key == "last" and size == 1 else None)
-            yield Fault(f"{name}-{key}", group, f"`{name}` {what}", right, wrong, "late-" if group == "late" else "",
-                        equal)
+            near = {"wait-fault": f"late-faults.{name}", "no-wait": f"late-faults.{name}-drawn",
+                    "scan": f"late-scans.{name}-", "unsigned": f"displacements.{name}-"}.get(key, f"accesses.{name}-")
+            yield Fault(f"{name}-{key}", group, f"`{name}` {what}", right, wrong, near, equal)
         yield from of_loads(name, here, there, size) if name in LOADS else of_stores(name, here, size)
 
 
 def of_loads(name, here, there, size):
     yield Fault(f"{name}-late", "late", f"`{name}` loads what is there while a trap is pending", LOADED,
-                LOADED.replace("drawn ?", f"drawn && !({here}) ?"), "late-words")
+                LOADED.replace("drawn ?", f"drawn && !({here}) ?"), f"late-words.{name}")
     yield Fault(f"{name}-sign", "runs", f"`{name}` is extended otherwise", LOADED,
                 LOADED.replace("size == 4 ?",
                                f"{here} ? ({'loaded & 0xFFFFFFFF' if size == 4 else f'extended(loaded, {8 * size})'}) "
                                f": size == 4 ?"),
-                "", "a quadword has no further bits" if size == 8 else None)
+                "answers/", "a quadword has no further bits" if size == 8 else None)
     yield Fault(f"{name}-flag", "runs",
                 f"`{name}` " + ("sets no lock flag" if name.endswith("_l") else "clears the lock flag"), LOADED,
                 f"{LOADED}\n    if ({here}) m.is_locked = 0;" if not name.endswith("_l")
@@ -173,7 +175,7 @@ def of_loads(name, here, there, size):
     if name.endswith("_l"):
         yield Fault(f"{name}-late-flag", "late", f"`{name}` sets no lock flag while a trap is pending",
                     "    if (w->kind == LOCKED_LOAD)\n        m.is_locked",
-                    f"    if (w->kind == LOCKED_LOAD && !(drawn && {here}))\n        m.is_locked", "late-")
+                    f"    if (w->kind == LOCKED_LOAD && !(drawn && {here}))\n        m.is_locked", "late-stores.st")
         for what, text in (("32 bytes", "32"), ("all", "1ull << 40")):
             yield Fault(f"{name}-block-{what.replace(' ', '-')}", "runs",
                         f"the lock flag is set by `{name}` with the start of a block of {what}", "m.lock = address;\n}",
@@ -182,26 +184,26 @@ def of_loads(name, here, there, size):
 
 def of_stores(name, here, size):
     yield Fault(f"{name}-late", "late", f"`{name}` stores its register while a trap is pending", STORED,
-                STORED.replace("drawn ?", f"drawn && !({here}) ?"), "late-stores")
+                STORED.replace("drawn ?", f"drawn && !({here}) ?"), f"late-stores.{name}")
     yield Fault(f"{name}-late-none", "late", f"`{name}` stores nothing while a trap is pending", STORED,
-                STORED.replace("put_little", f"if (!drawn || !({here})) put_little"), "late-stores")
+                STORED.replace("put_little", f"if (!drawn || !({here})) put_little"), f"late-stores.{name}")
     yield Fault(f"{name}-code", "runs", f"`{name}` may store into the code",
                 "    return bytes_at(address_of(w), (u64)size_of(w), is_store(w)) ? NONE : ACCESS;",
                 f"    return bytes_at(address_of(w), (u64)size_of(w), is_store(w) && !({here})) ? NONE : ACCESS;",
-                "accesses")
+                f"accesses.{name}-")
     yield Fault(f"{name}-wide", "runs", f"`{name}` stores a byte less", STORED,
-                STORED.replace(", size);", f", size - ({here}));"))
+                STORED.replace(", size);", f", size - ({here}));"), f"accesses.{name}-")
     if name.endswith("_c"):
         clear = "            m.is_locked = 0;"
         yield Fault(f"{name}-keeps", "runs", f"`{name}` leaves the lock flag", clear,
                     f"            m.is_locked = {here} ? m.is_locked : 0;", "answers/")
         yield Fault(f"{name}-late-keeps", "late", f"`{name}` leaves the lock flag while a trap is pending", clear,
-                    f"            m.is_locked = drawn && {here} ? m.is_locked : 0;", "late-stores")
+                    f"            m.is_locked = drawn && {here} ? m.is_locked : 0;", f"late-stores.{name}")
         yield Fault(f"{name}-failed-keeps", "runs", f"`{name}` leaves the flag where it doesn't store", clear,
                     f"            m.is_locked = !is_stored && {here} ? m.is_locked : 0;", "answers/")
         yield Fault(f"{name}-late-told", "late", f"`{name}` tells whether it stored while a trap is pending",
                     "            set(w->ra, drawn ? *drawn : (u64)is_stored);",
-                    f"            set(w->ra, drawn && !({here}) ? *drawn : (u64)is_stored);", "late-stores")
+                    f"            set(w->ra, drawn && !({here}) ? *drawn : (u64)is_stored);", f"late-stores.{name}")
         yield Fault(f"{name}-always", "runs", f"`{name}` stores where any flag is set",
                     "(m.is_locked && m.lock / 16 == address / 16)",
                     f"(m.is_locked && ({here} || m.lock / 16 == address / 16))", "answers/")
@@ -213,7 +215,7 @@ def of_stores(name, here, size):
                         f"m.lock / {block} == address / {block});", "answers/values-flags")
         yield Fault(f"{name}-late-always", "late", f"`{name}` always stores while a trap is pending",
                     "(m.is_locked && m.lock / 16 == address / 16)",
-                    f"(m.is_locked && m.lock / 16 == address / 16) || (drawn && {here})", "late-stores")
+                    f"(m.is_locked && m.lock / 16 == address / 16) || (drawn && {here})", f"late-stores.{name}")
         yield Fault(f"{name}-unset", "runs", f"`{name}` faults only where it would store",
                     "        return NONE;\n    if (address_of(w) %",
                     f"        return NONE;\n    if ({here} && !(m.is_locked && m.lock / 16 == address_of(w) / 16))\n   "
@@ -229,17 +231,17 @@ def of_turns():
     for name, there in TURNS.items():
         here = there.replace("w.", "w->")
         yield Fault(f"scan-over-{name}", "late", f"the handler looks back over `{name}`", SCANNED,
-                    SCANNED.replace("w.kind == TURN", f"(w.kind == TURN && !({there}))"), "late-scans")
+                    SCANNED.replace("w.kind == TURN", f"(w.kind == TURN && !({there}))"), f"late-scans.{name}-")
         yield Fault(f"no-wait-{name}", "late", f"a trap is reported at `{name}`", WAITING,
-                    WAITING.replace("return ", f"return !({there}) && "), "late-")
+                    WAITING.replace("return ", f"return !({there}) && "), f"late-turns.{name}")
         yield Fault(f"flag-{name}", "runs", f"`{name}` clears the lock flag", TURNING,
-                    f"{TURNING}\n    if ({here}) m.is_locked = 0;", "locks-turns")
+                    f"{TURNING}\n    if ({here}) m.is_locked = 0;", f"locks-turns.{name}-")
         if name in BRANCHES:
             for bits in (16, 20):
                 yield Fault(f"{name}-{bits}-bits", "runs", f"a displacement of `{name}` has {bits} bits", TURNING,
-                            f"{TURNING}\n    if ({here}) target = next + extended(w->number, {bits}) * 4;", "places")
+                            f"{TURNING}\n    if ({here}) target = next + extended(w->number, {bits}) * 4;", f"places.{name}-")
             yield Fault(f"{name}-unsigned", "runs", f"a displacement of `{name}` has no sign", TURNING,
-                        f"{TURNING}\n    if ({here}) target = next + (w->number & 0x1FFFFF) * 4ull;", "")
+                        f"{TURNING}\n    if ({here}) target = next + (w->number & 0x1FFFFF) * 4ull;", f"places.{name}-")
         if name in CONDITIONAL:
             test = "!is_true(w->opcode, m.reg[w->ra])"
             for what, text in (("is always taken", f"!({here}) && {test}"), ("is never taken", f"({here} || {test})"),
@@ -251,14 +253,14 @@ def of_turns():
             for what, text in (("is always taken", f"!(drawn && {here}) && {test}"),
                                ("is never taken", f"((drawn && {here}) || {test})")):
                 yield Fault(f"{name}-late-{what.replace(' ', '-')}", "late", f"while a trap is pending `{name}` {what}",
-                            test, text, "late-turns")
+                            test, text, f"late-turns.{name}-")
         else:
             link = "        set(w->ra, drawn ? *drawn : next);"
             for what, text, near in (("leaves no link", link.replace("set(", f"if (!({here})) set("), "answers/"),
                                      ("leaves its own address", link.replace(": next", f": {here} ? m.pc : next"),
                                       "answers/"),
                                      ("leaves the next address while a trap is pending",
-                                      link.replace("drawn ?", f"drawn && !({here}) ?"), "late-words"),
+                                      link.replace("drawn ?", f"drawn && !({here}) ?"), f"late-words.{name}"),
                                      ("leaves nothing while a trap is pending",
                                       link.replace("set(", f"if (!drawn || !({here})) set("), "late-words")):
                 yield Fault(f"{name}-{what.replace(' ', '-')}", "late" if "pending" in what else "runs",
@@ -268,9 +270,9 @@ def of_turns():
             for what, mask in (("one low bit", "~1ull"), ("no low bit", "~0ull"), ("three low bits", "~7ull"),
                                ("the high half", "0xFFFFFFFCull")):
                 yield Fault(f"{name}-clears-{what.replace(' ', '-')}", "runs", f"`{name}` clears {what}", target,
-                            target.replace("~3ull", f"({here} ? {mask} : ~3ull)"), "places")
+                            target.replace("~3ull", f"({here} ? {mask} : ~3ull)"), f"places.{name}-bit-")
             yield Fault(f"{name}-link-first", "runs", f"`{name}` reads its register behind the link", target,
-                        f"{{ if ({here}) set(w->ra, drawn ? *drawn : next); {target.strip()} }}", "")
+                        f"{{ if ({here}) set(w->ra, drawn ? *drawn : next); {target.strip()} }}", "answers/values-bases")
 
 
 def of_barriers():
@@ -278,9 +280,9 @@ def of_barriers():
     for name, there in BARRIERS.items():
         here = there.replace("w.", "w->")
         yield Fault(f"scan-over-{name}", "late", f"the handler looks back over `{name}`", SCANNED,
-                    SCANNED.replace("w.kind == BARRIER", f"(w.kind == BARRIER && !({there}))"), "late-scans")
+                    SCANNED.replace("w.kind == BARRIER", f"(w.kind == BARRIER && !({there}))"), f"late-scans.{name}-")
         yield Fault(f"wait-at-{name}", "late", f"a trap may wait at `{name}`", WAITING,
-                    WAITING.replace("w.kind != BARRIER", f"(w.kind != BARRIER || {there})"), "late-faults")
+                    WAITING.replace("w.kind != BARRIER", f"(w.kind != BARRIER || {there})"), f"late-faults.at-{name}")
         if name not in ("bpt", "bugchk", "gentrap"):
             equal = None if name != "callsys" else "callsys clears it anyway"
             yield Fault(f"flag-{name}", "runs", f"`{name}` clears the lock flag",
@@ -294,9 +296,9 @@ def of_orders():
     for name, function in {"mb": 0x4000, "wmb": 0x4400, "fetch": 0x8000, "fetch_m": 0xA000}.items():
         there = f"(w.opcode == 0x18 && (w.number & 0xFFFF) == {function:#x})"
         yield Fault(f"scan-ends-{name}", "late", f"`{name}` ends the handler's way back", SCANNED,
-                    SCANNED.replace("w.kind == TURN", f"w.kind == TURN || {there}"), "late-scans")
+                    SCANNED.replace("w.kind == TURN", f"w.kind == TURN || {there}"), f"late-scans.{name}-")
         yield Fault(f"no-wait-{name}", "late", f"a trap is reported at `{name}`", WAITING,
-                    WAITING.replace("return ", f"return !{there} && "), "late-")
+                    WAITING.replace("return ", f"return !{there} && "), f"late-words.plain-{name}")
 
 
 def all_faults():

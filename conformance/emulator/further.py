@@ -37,7 +37,7 @@ def of_images():
     for last in range(1, 8):
         for first in range(last):
             yield Fault(f"overlap-{first}-{last}", "images", f"segments {first} and {last} may share addresses", OVERLAPS,
-                        OVERLAPS.replace("if (", f"if (!(k == {first} && n == {last}) && "), "images.overlap-")
+                        OVERLAPS.replace("if (", f"if (!(k == {first} && n == {last}) && "), f"images.overlap-{first}-{last}")
     for name, told, test in (("7", "7 zeroed ones behind an odd count", "count % 2 && zeroed % 8 == 7"),
                              ("odd", "an odd count", "count % 2 && zeroed"), ("8", "8 zeroed ones", "zeroed == 8"),
                              ("9", "nine or more", "count > 8 && zeroed"), ("none", "none", "!count && zeroed")):

@@ -34,7 +34,7 @@ def of_flags():
     """The lock flag over each kind of word while a trap is pending, and over turns back and far."""
     for name, test in plain_words().items():
         yield Fault(f"late-flag-{name}", "late", f"`{name}` clears the lock flag while a trap is pending", DONE,
-                    f"    if (drawn && {test})\n        m.is_locked = 0;\n{DONE}", "late-flags")
+                    f"    if (drawn && {test})\n        m.is_locked = 0;\n{DONE}", f"late-flags.{name.replace('/', '-')}")
     for name, test in TURNS.items():
         here = test.replace("w.", "w->")
         for how, told, group, where, near in (
@@ -43,7 +43,7 @@ def of_flags():
                 ("flag-back", "back", "runs", "target < m.pc", "locks-far"),
                 ("flag-far", "by more than 16 words", "runs", "target > m.pc + 64", "locks-far")):
             yield Fault(f"{how}-{name}", group, f"`{name}` {told} clears the lock flag", TURNED,
-                        f"    if ({where} && {here})\n        m.is_locked = 0;\n{TURNED}", near)
+                        f"    if ({where} && {here})\n        m.is_locked = 0;\n{TURNED}", f"{near}.{name}")
 
 
 def of_draws():
@@ -54,11 +54,11 @@ def of_draws():
     for name, test in tests.items():
         there = test.replace("w->", "w.")
         yield Fault(f"draw-{name}", "late", f"no value is drawn for `{name}` whose register is R31", DRAWS,
-                    DRAWS.replace("chosen();", f"{there} ? 0 : chosen();"), "late-zeros")
+                    DRAWS.replace("chosen();", f"{there} ? 0 : chosen();"), f"late-zeros.{name.replace('/', '-')}")
     for name in STORES:
         yield Fault(f"draw-stored-{name}", "late", f"`{name} $31` stores 0 while a trap is pending", STORED,
                     STORED.replace("drawn ?", f"drawn && !(w->opcode == {MEMORY[name]:#x} && w->ra == 31) ?"),
-                    "late-zeros")
+                    f"late-zeros.{name}")
     yield Fault("draw-unset", "late", "no value is drawn for a conditional store that doesn't store", DRAWS,
                 DRAWS.replace("chosen();", "w.kind == CONDITIONAL_STORE && !m.is_locked ? 0 : chosen();"), "late-zeros")
 
@@ -71,7 +71,8 @@ def of_alike():
         first = "" if name in table.UNARY else " && w->ra == w->rb"
         test = f"{operate_test(name)} && !w->has_literal && w->rb == w->rc{first}"
         yield Fault(f"alike-{name}", "late", f"`{name}` whose registers are one leaves its result while a trap is pending",
-                    EXECUTED, EXECUTED.replace("drawn ?", f"drawn && !({test}) ?"), "late-moves")
+                    EXECUTED, EXECUTED.replace("drawn ?", f"drawn && !({test}) ?"),
+                    f"late-moves.{name.replace('/', '-')}-own")
     bis = operate_test("bis")
     for name, told, test in (("mov", "`mov`", f"{bis} && w->ra == 31"),
                              ("mov-other", "`bis` with R31 behind", f"{bis} && !w->has_literal && w->rb == 31"),
@@ -92,7 +93,7 @@ def of_masks():
     """Registers of a mask, and how long a trap waits."""
     for register in range(31):
         yield Fault(f"added-{register}", "late", f"a further /V word doesn't add ${register} to the mask", ADDS,
-                    ADDS.replace("(adds)", f"(adds && w.rc != {register})"), "late-added")
+                    ADDS.replace("(adds)", f"(adds && w.rc != {register})"), f"late-added.to-{register}")
     yield Fault("added-anew", "late", "a trap whose mask gets a register waits anew", ADDS,
                 "    if (adds)\n        m.mask |= bit(w.rc), m.waited = 0;", "late-counted")
     kinds = {"trapping": "w.kind == TRAPPING", "adding": "adds", "plain": "w.kind == PLAIN && w.opcode >= 0x10 && "
