@@ -51,8 +51,8 @@ def cut(notes):
 
 
 def is_right(ran, wanted, output):
-    """Whether a run did all that is wanted, so that nothing need be looked for. Where no line that is wanted begins with
-    `barrier`, nothing is said of barriers."""
+    """Whether a run did all that is wanted. Where no line that is wanted begins with `barrier`, nothing is said of
+    barriers."""
     if ran.status != wanted_status(last(wanted)) or ran.out != output:
         return False
     return ran.notes == wanted or "barrier " not in wanted and BARRIER.sub("", ran.notes) == wanted

@@ -2,12 +2,14 @@
 import os
 import re
 import struct
-from collections import namedtuple
+from collections import Counter, namedtuple
 
 import calls
 import packed
 import telling
-from differences import ENDS, Told, end_difference, is_end, is_right, last, notes_difference, output_difference, wanted_status
+from differences import (ENDS, Told, end_difference, is_end, is_right, last, notes_difference, output_difference,
+                         wanted_status)
+from journal_bytes import ENDINGS, HEAD, REPORT, WAIT, end_of, items_of, logged_count, output_of
 
 HERE = os.path.dirname(os.path.abspath(__file__))
 Line = namedtuple("Line", "file kind image completion steps answer origin about")
@@ -16,11 +18,6 @@ Line = namedtuple("Line", "file kind image completion steps answer origin about"
 Part = namedtuple("Part", "name about try_it files")
 PARTS = ("output", "overflows", "barriers", "end")
 COMPLETIONS = ("wrap", "saturate", "stop")
-# The head of a journal, the bytes of each kind of item, and the line of each ending by its two numbers.
-HEAD, ITEMS, WAIT, REPORT = struct.Struct("<8sBBQQIII"), (5, 9, 10, 1), 2, 3
-ENDINGS = ("steps", "exit {0}", "signal {0} at {1:016x}", "fetch {0:016x}", "access {0:016x} address {1:016x}",
-           "align {0:016x} address {1:016x}", "lost {0:016x} mask {1}", "stop at {0:016x}")
-LOST, STOPPED = 6, 7
 
 
 def manifest():
@@ -219,7 +216,7 @@ class Suite:
     def recorded(self, line, whole, said, given):
         """What is wrong with a journal that is a run, but not one that goes to the end as it should."""
         _, completion, ending, _, _, taken, put, _ = HEAD.unpack_from(whole)
-        self.count(whole[HEAD.size + taken + put:])
+        self.count(whole)
         if COMPLETIONS[completion] != line.completion:
             return Told(f"the journal is of a run by {COMPLETIONS[completion]}")
         units = re.match(r"run units (\d+) ", said)
@@ -237,12 +234,10 @@ class Suite:
         return (None if whole[HEAD.size:HEAD.size + taken] == given[:taken]
                 else Told("the journal has another input than it was given"))
 
-    def count(self, items):
-        at = 0
-        while at < len(items):
-            self.waits += items[at] == WAIT
-            self.reports += ITEMS[items[at]] == 1
-            at += ITEMS[items[at]]
+    def count(self, whole):
+        kinds = Counter(kind for kind, _ in items_of(whole))
+        self.waits += kinds[WAIT]
+        self.reports += kinds[REPORT]
 
     # ---- all of it
 
@@ -299,14 +294,10 @@ def answer_of(case):
     """The line of a journal of the table."""
     if case.kind == "refuse":
         return case.answer
-    *_, taken, put, count = HEAD.unpack_from(case.journal)
     units = reports = 0
-    at = HEAD.size + taken + put
-    while at < len(case.journal):
-        kind = case.journal[at]
+    for kind, at in items_of(case.journal):
         units += struct.unpack_from("<I", case.journal, at + 1)[0] if kind == 0 else kind == 1
         reports += kind == REPORT
-        at += ITEMS[kind]
     return f"run units {units} reports {reports}"
 
 
@@ -342,22 +333,10 @@ def where_wanted(line, whole, wanted):
     return telling.item_lines(line.image, whole, int(found[1])) if found else []
 
 
-def output_of(whole):
-    """The output that a journal has."""
-    *_, taken, put, _ = HEAD.unpack_from(whole)
-    return whole[HEAD.size + taken:HEAD.size + taken + put]
-
-
 def status_difference(status, end):
     """What is wrong with the status behind the line of an end."""
     number = wanted_status(end)
     return None if status == number else Told(f"{calls.end_text(status)} behind `{end}`, and {number} is wanted")
-
-
-def end_of(whole):
-    """The line of the end of a journal's run."""
-    _, _, ending, first, second, *_ = HEAD.unpack_from(whole)
-    return ENDINGS[ending].format(first, second)
 
 
 def refusal_difference(ran, wanted):
@@ -370,16 +349,6 @@ def refusal_difference(ran, wanted):
     if ran.status < 0:
         return Told(f"{calls.end_text(ran.status)}, and `{wanted}` is wanted")
     return Told(f"`{said}`, and `{wanted}` is wanted") if said.startswith("image kind") and said != wanted else None
-
-
-def logged_count(whole):
-    """How many overflows a journal's run logs: each report, but for one that ends it."""
-    _, _, ending, _, _, taken, put, _ = HEAD.unpack_from(whole)
-    at, reports = HEAD.size + taken + put, 0
-    while at < len(whole):
-        reports += whole[at] == REPORT
-        at += ITEMS[whole[at]]
-    return reports - (ending in (LOST, STOPPED))
 
 
 def told_of_record(line, ran, whole, is_accepted, seed):

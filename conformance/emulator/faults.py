@@ -52,7 +52,8 @@ def of_operates():
                     WAITING.replace("return ", f"return !({there}) && "), f"late-words.{told}")
         if name not in TRAPPING:
             yield Fault(f"scan-counts-{name}", "late", f"the handler counts the destination of `{name}`", COUNTED,
-                        COUNTED.replace("w.kind == TRAPPING", f"w.kind == TRAPPING || {there}"), f"late-masks-by-word.{told}")
+                        COUNTED.replace("w.kind == TRAPPING", f"w.kind == TRAPPING || {there}"),
+                        f"late-masks-by-word.{told}")
         yield Fault(f"flag-{name}", "runs", f"`{name}` clears the lock flag", EXECUTED,
                     f"{{ {EXECUTED} if ({here}) m.is_locked = 0; }}", "answers/values-flags")
         yield Fault(f"none-{name}", "values", f"`{name}` into $31 is kept", EXECUTED,
@@ -239,7 +240,8 @@ def of_turns():
         if name in BRANCHES:
             for bits in (16, 20):
                 yield Fault(f"{name}-{bits}-bits", "runs", f"a displacement of `{name}` has {bits} bits", TURNING,
-                            f"{TURNING}\n    if ({here}) target = next + extended(w->number, {bits}) * 4;", f"places.{name}-")
+                            f"{TURNING}\n    if ({here}) target = next + extended(w->number, {bits}) * 4;",
+                            f"places.{name}-")
             yield Fault(f"{name}-unsigned", "runs", f"a displacement of `{name}` has no sign", TURNING,
                         f"{TURNING}\n    if ({here}) target = next + (w->number & 0x1FFFFF) * 4ull;", f"places.{name}-")
         if name in CONDITIONAL:
@@ -272,7 +274,8 @@ def of_turns():
                 yield Fault(f"{name}-clears-{what.replace(' ', '-')}", "runs", f"`{name}` clears {what}", target,
                             target.replace("~3ull", f"({here} ? {mask} : ~3ull)"), f"places.{name}-bit-")
             yield Fault(f"{name}-link-first", "runs", f"`{name}` reads its register behind the link", target,
-                        f"{{ if ({here}) set(w->ra, drawn ? *drawn : next); {target.strip()} }}", "answers/values-bases")
+                        f"{{ if ({here}) set(w->ra, drawn ? *drawn : next); {target.strip()} }}",
+                        "answers/values-bases")
 
 
 def of_barriers():

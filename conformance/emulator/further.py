@@ -1,5 +1,5 @@
-"""Further faults of that emulator: the order of an image's rules, segments, bits that are counted, long calls, long runs;
-and some that change no answer."""
+"""Further faults of that emulator: the order of an image's rules, segments, bits that are counted, long calls, long
+runs; and some that change no answer."""
 from .faults import LOADED, Fault
 from .state import WORD_IN
 
@@ -16,7 +16,8 @@ RULES = {2: EACH.format("part[n].base % PAGE || part[n].base >= TOP", 2),
          6: "    if (stack < LEAST_STACK || stack > MOST_STACK || stack % 16)\n        return 6;\n",
          7: "    if (entry % 4 || entry < base || entry >= base + 4 * words)\n        return 7;\n",
          8: EACH.format("shares(part[n].base, part[n].data + part[n].zeroed, base, 4 * words)", 8)}
-BEHIND = {2: "    if (words == 0 || words > MOST_WORDS ||", 4: "    for (unsigned n = 0; n < count; n++)\n        bytes +=",
+BEHIND = {2: "    if (words == 0 || words > MOST_WORDS ||",
+          4: "    for (unsigned n = 0; n < count; n++)\n        bytes +=",
           5: "    if (stack < LEAST_STACK ||", 6: "    if (entry % 4 || entry < base ||",
           7: "    if (shares(base, 4 * words, TOP - stack, stack))"}
 
@@ -36,16 +37,19 @@ def of_images():
                 "MOST_DATA)\n            return 5;", "images.both-4-5")
     for last in range(1, 8):
         for first in range(last):
-            yield Fault(f"overlap-{first}-{last}", "images", f"segments {first} and {last} may share addresses", OVERLAPS,
-                        OVERLAPS.replace("if (", f"if (!(k == {first} && n == {last}) && "), f"images.overlap-{first}-{last}")
+            yield Fault(f"overlap-{first}-{last}", "images", f"segments {first} and {last} may share addresses",
+                        OVERLAPS,
+                        OVERLAPS.replace("if (", f"if (!(k == {first} && n == {last}) && "),
+                        f"images.overlap-{first}-{last}")
     for name, told, test in (("7", "7 zeroed ones behind an odd count", "count % 2 && zeroed % 8 == 7"),
                              ("odd", "an odd count", "count % 2 && zeroed"), ("8", "8 zeroed ones", "zeroed == 8"),
                              ("9", "nine or more", "count > 8 && zeroed"), ("none", "none", "!count && zeroed")):
         yield Fault(f"data-later-{name}", "images", f"data bytes are a byte later: {told}", COPIED,
-                    f"    if ({test})\n        r->bytes[0] = 1;\n    memcpy(r->bytes + (r->size > count && {test}), data, "
-                    "count);", "images.sizes-")
+                    f"    if ({test})\n        r->bytes[0] = 1;\n    memcpy(r->bytes + (r->size > count && {test}), "
+                    "data, count);", "images.sizes-")
     yield Fault("decoded-behind", "runs", "words that are decoded behind a call are kept by 15 bits of their place",
-                WORD_IN, "    static struct word kept[32768];\n    static byte known[32768];\n    u64 at = place % 32768;\n"
+                WORD_IN,
+                "    static struct word kept[32768];\n    static byte known[32768];\n    u64 at = place % 32768;\n"
                 "    if (known[at] && m.output.count + m.taken)\n        return kept[at];\n    if (m.output.count + "
                 "m.taken)\n        known[at] = 1;\n"
                 "    return kept[at] = word_of((unsigned)little(m.code + 4 * place, 4));", "images.distant-behind")
@@ -72,7 +76,8 @@ def of_calls():
     for size in (4_096, 65_536):
         yield Fault(f"put-{size}", "runs", f"a write puts {size:,} bytes at most", PUT,
                     PUT.replace(", count);", f", count > {size} ? {size} : count);"), "reads-long")
-    yield Fault("taken-100000", "runs", "a read takes 100,000 bytes at most", "        count = count < left ? count : left;",
+    yield Fault("taken-100000", "runs", "a read takes 100,000 bytes at most",
+                "        count = count < left ? count : left;",
                 "        count = count < left ? count : left;\n        count = count > 100000 ? 100000 : count;",
                 "reads-long")
 
@@ -82,11 +87,13 @@ def of_long_runs():
     for name, most in (("255", 255), ("65535", 65_535)):
         yield Fault(f"units-{name}", "recording", f"a Units is kept of {most:,} units at most", counted,
                     counted.replace("++", f" += items.at[items.count - 1].value < {most}"), "end-l")
-    yield Fault("full-early", "recording", "a run of more than 200,000 items that ends has no room", "used > MOST_UNITS)",
+    yield Fault("full-early", "recording", "a run of more than 200,000 items that ends has no room",
+                "used > MOST_UNITS)",
                 "used > MOST_UNITS || (m.end != NONE && items.count > 200000))", "late-counted.many")
     yield Fault("full-items-17", "recording", "a run has 131,072 items at most", "items.count > MOST_ITEMS ||",
                 "items.count > MOST_ITEMS / 8 ||", "late-counted.many")
-    yield Fault("follow-pending-input", "following", "a run that doesn't end may have a trap pending, where there is input",
+    yield Fault("follow-pending-input", "following",
+                "a run that doesn't end may have a trap pending, where there is input",
                 "m.second != second || m.is_pending)", "m.second != second || (m.is_pending && in == 0))",
                 "pending.pending-alone")
 
@@ -100,8 +107,8 @@ SAME = [
      "21 bits and two more are fewer than 32"),
     ("cttz-halves", "values", "`cttz` looks at one half and then at the other",
      "return b ? (u64)__builtin_ctzll(b) : 64;",
-     "return b ? (unsigned)b ? (u64)__builtin_ctz((unsigned)b) : 32 + (u64)__builtin_ctz((unsigned)(b >> 32) | 1u << 31) "
-     ": 64;", "where the low half is 0 the other has a bit"),
+     "return b ? (unsigned)b ? (u64)__builtin_ctz((unsigned)b) : 32 + (u64)__builtin_ctz((unsigned)(b >> 32) | 1u << "
+     "31) : 64;", "where the low half is 0 the other has a bit"),
     ("complete-alike", "late", "the handler takes the first operand for a second one of the same register",
      "    u64 value = result(&w, m.reg[w.ra], operand(&w), 0);",
      "    u64 value = result(&w, m.reg[w.ra], w.ra == w.rb && !w.has_literal ? m.reg[w.ra] : operand(&w), 0);",

@@ -10,8 +10,8 @@ DRAWS = "    u64 value = chosen();\n    keep_item(WAIT"
 ADDS = "    if (adds)\n        m.mask |= bit(w.rc);"
 COUNTS = "    m.waited++;"
 BACK = "    while (place-- > 0) {"
-SETS_ADDRESS = ("        set(w->ra, drawn ? *drawn : m.reg[w->rb] + (u64)w->displacement * (w->opcode == 0x09 ? 65536 : "
-                "1));")
+SETS_ADDRESS = ("        set(w->ra, drawn ? *drawn : m.reg[w->rb] + (u64)w->displacement * "
+                "(w->opcode == 0x09 ? 65536 : 1));")
 ORDERS = {"mb": 0x4000, "wmb": 0x4400, "fetch": 0x8000, "fetch_m": 0xA000}
 
 
@@ -34,7 +34,8 @@ def of_flags():
     """The lock flag over each kind of word while a trap is pending, and over turns back and far."""
     for name, test in plain_words().items():
         yield Fault(f"late-flag-{name}", "late", f"`{name}` clears the lock flag while a trap is pending", DONE,
-                    f"    if (drawn && {test})\n        m.is_locked = 0;\n{DONE}", f"late-flags.{name.replace('/', '-')}")
+                    f"    if (drawn && {test})\n        m.is_locked = 0;\n{DONE}",
+                    f"late-flags.{name.replace('/', '-')}")
     for name, test in TURNS.items():
         here = test.replace("w.", "w->")
         for how, told, group, where, near in (
@@ -70,7 +71,8 @@ def of_alike():
             continue
         first = "" if name in table.UNARY else " && w->ra == w->rb"
         test = f"{operate_test(name)} && !w->has_literal && w->rb == w->rc{first}"
-        yield Fault(f"alike-{name}", "late", f"`{name}` whose registers are one leaves its result while a trap is pending",
+        yield Fault(f"alike-{name}", "late",
+                    f"`{name}` whose registers are one leaves its result while a trap is pending",
                     EXECUTED, EXECUTED.replace("drawn ?", f"drawn && !({test}) ?"),
                     f"late-moves.{name.replace('/', '-')}-own")
     bis = operate_test("bis")
@@ -107,7 +109,8 @@ def of_masks():
         yield Fault(f"counted-{name}", "late", f"a word doesn't count for how long a trap waits: {name}", COUNTS,
                     f"    m.waited += !({test});", "late-counted")
         if name != "adding":
-            yield Fault(f"counted-once-{name}", "late", f"a trap that has waited for 1,000 words is reported at: {name}",
+            yield Fault(f"counted-once-{name}", "late",
+                        f"a trap that has waited for 1,000 words is reported at: {name}",
                         WAITING, WAITING.replace("m.waited <", f"!(m.waited >= 1000 && {test}) && m.waited <"),
                         "late-counted")
 
@@ -137,7 +140,8 @@ def of_choices():
     right = "    if (choice % 4 == 0) {"
     for low in (1, 2, 3):
         for name, test in (("63", "choice >> 63"), ("32", "choice >> 32"), ("3", "choice & 8"), ("2", "choice & 4")):
-            yield Fault(f"rest-{low}-{name}", "late", f"a word of low bits {low} with bit {name} chooses a report", right,
+            yield Fault(f"rest-{low}-{name}", "late", f"a word of low bits {low} with bit {name} chooses a report",
+                        right,
                         f"    if (choice % 4 == 0 || (choice % 4 == {low} && ({test}))) {{", "late-rest")
     for name, test in (("63", "choice >> 63"), ("32", "choice >> 32"), ("3", "choice & 8")):
         yield Fault(f"rest-0-{name}", "late", f"a word of low bits 0 with bit {name} chooses no report", right,

@@ -5,7 +5,8 @@ import itertools
 from .images import (BASE, CALLSYS, DATA, EXIT, MOST_DATA, MOST_WORDS, NOP, PAGE, Segment, field, put, row, second)
 
 # What breaks each field of an image of version 2 with one segment: offset, number, size.
-BROKEN = {1: (8, 1, 8), 2: (40, 1, 8), 3: (24, 0, 4), 4: (48, MOST_DATA + 1, 4), 5: (52, MOST_DATA + 1, 4), 6: (28, 8, 4),
+BROKEN = {1: (8, 1, 8), 2: (40, 1, 8), 3: (24, 0, 4), 4: (48, MOST_DATA + 1, 4), 5: (52, MOST_DATA + 1, 4),
+          6: (28, 8, 4),
           7: (16, 1, 8), 8: (40, BASE, 8), 9: (32, 3, 4), 10: (36, 9, 4)}
 # ldah $1,0x1000($31); ldq $16,0($1); lda $0,1($31); callsys
 LOADED = [0x243F1000, 0xA6010000, EXIT[0], CALLSYS]

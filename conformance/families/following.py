@@ -178,7 +178,8 @@ def pending():
     refused("pending", "the items end while a trap is pending, and the run doesn't end",
             lambda kept: ending("none", 0, 0)(of_items(lambda items: items[:2])(kept)), None)
     made.rows[-1] = made.rows[-1]._replace(answer="norun kind 2 at 0")
-    refused("pending-alone", "the items end while a trap is pending, with the output that there is, and input behind it",
+    refused("pending-alone",
+            "the items end while a trap is pending, with the output that there is, and input behind it",
             lambda kept: put_nothing(ending("none", 0, 0)(of_items(lambda items: items[:2])(kept))), NO_END)
     formats(refused)
     return made

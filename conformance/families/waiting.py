@@ -1,5 +1,5 @@
-"""A pending trap, by every kind of word: the lock flag over it, R31 and alike registers as its destination, its register
-in the mask, how long the trap waits, how far the handler looks back, and choices that end."""
+"""A pending trap, by every kind of word: the lock flag over it, R31 and alike registers as its destination, its
+register in the mask, how long the trap waits, how far the handler looks back, and choices that end."""
 from . import blocks, late
 from .blocks import Blocks, waits
 
@@ -69,7 +69,8 @@ def zeros():
                   OVERFLOWS, [0x77, *waits((UNSEEN, 0), (0x99, 0))])
     for name in late.BRANCHES:
         made.add(f"{name}_zero", [SUM, f"{name} $31,.+4", SUM, "trapb", "br dump"])
-        made.late(f"{name}-zero", f"{name}_zero", f"`{name} $31` while a trap is pending draws a value that nothing has",
+        made.late(f"{name}-zero", f"{name}_zero",
+                  f"`{name} $31` while a trap is pending draws a value that nothing has",
                   OVERFLOWS, [0x77, *waits((UNSEEN, 0), (0x99, 0))])
     return made
 
@@ -77,9 +78,11 @@ def zeros():
 def moves():
     """Words that move, clear or change nothing, and others whose registers are one."""
     made = Blocks("late-moves",
-                  "While a trap is pending, words whose registers are one or R31, and those with a literal: $5 gets the "
+                  "While a trap is pending, words whose registers are one or R31, and those with a literal: $5 gets "
+                  "the "
                   "drawn value.")
-    lines = {"mov": "mov $6,$5", "clr": "clr $5", "mov-literal": "mov 7,$5", "mov-zero": "bis $6,0,$5", "lda-own": "lda $5,0($5)", "lda-zero": "lda $5,0($31)",
+    lines = {"mov": "mov $6,$5", "clr": "clr $5", "mov-literal": "mov 7,$5", "mov-zero": "bis $6,0,$5",
+             "lda-own": "lda $5,0($5)", "lda-zero": "lda $5,0($31)",
              "lda-move": "lda $5,0($6)", "ldah-own": "ldah $5,0($5)", "ldah-zero": "ldah $5,1($31)"}
     for name in late.operates():
         if name != "implver":
@@ -89,14 +92,16 @@ def moves():
     for name, line in lines.items():
         label = name.replace("/", "_").replace("-", "_")
         made.add(label, ["lda $5,85($31)", SUM, line, SUM, "trapb", "br dump"])
-        made.late(name.replace("/", "-"), label, f"`{line}` while a trap is pending: $5 gets the drawn value", OVERFLOWS,
+        made.late(name.replace("/", "-"), label, f"`{line}` while a trap is pending: $5 gets the drawn value",
+                  OVERFLOWS,
                   [0x77, *waits((DRAWN, 0), (0x99, 0))])
     return made
 
 
 def added():
     """Each register in a mask, that of a further word."""
-    made = Blocks("late-added", "A /V word behind the trigger adds its register to the mask, and a branch loses the trap.")
+    made = Blocks("late-added",
+                  "A /V word behind the trigger adds its register to the mask, and a branch loses the trap.")
     for register in range(31):
         first = "addq/v $1,$2,$5" if register == 3 else SUM
         made.add(f"to_{register}", [first, f"addq/v $4,$6,${register}", "br $31,.+4", "trapb"])
@@ -171,7 +176,8 @@ def rest():
 def turns():
     """The lock flag over turns back and far, by the input's $6 and $7."""
     made = Blocks("locks-far",
-                  "A jump or a branch between a locked load and its conditional store, back or far: it leaves the flag.",
+                  "A jump or a branch between a locked load and its conditional store, back or far: it leaves the "
+                  "flag.",
                   before=["stq_c $5,64($9)", "trapb", "br dump"])
     for name in TURNS:
         for how, target in (("back", "before"), ("far", "behind")):
