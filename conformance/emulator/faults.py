@@ -148,7 +148,8 @@ def of_accesses():
             equal = "its address is always a multiple" if unaligned and key in ("odd", "half", "region-first") else None
             equal = equal or ("a byte is its first" if key == "last" and size == 1 else None)
             near = {"wait-fault": f"late-faults.{name}", "no-wait": f"late-faults.{name}-drawn",
-                    "scan": f"late-scans.{name}-", "unsigned": f"displacements.{name}-"}.get(key, f"accesses.{name}-")
+                    "scan": f"late-faults.{name}-drawn",
+                    "unsigned": f"displacements.{name}-"}.get(key, f"accesses.{name}-")
             yield Fault(f"{name}-{key}", group, f"`{name}` {what}", right, wrong, near, equal)
         yield from of_loads(name, here, there, size) if name in LOADS else of_stores(name, here, size)
 

@@ -15,6 +15,11 @@ SETS_ADDRESS = ("        set(w->ra, drawn ? *drawn : m.reg[w->rb] + (u64)w->disp
 ORDERS = {"mb": 0x4000, "wmb": 0x4400, "fetch": 0x8000, "fetch_m": 0xA000}
 
 
+def dashed(name):
+    """The name of an instruction as cases have it."""
+    return name.replace("/", "-").replace("_", "-")
+
+
 def operate_test(name):
     return f"(w->opcode << 8 | w->function) == {CODES[name]:#x}"
 
@@ -35,16 +40,17 @@ def of_flags():
     for name, test in plain_words().items():
         yield Fault(f"late-flag-{name}", "late", f"`{name}` clears the lock flag while a trap is pending", DONE,
                     f"    if (drawn && {test})\n        m.is_locked = 0;\n{DONE}",
-                    f"late-flags.{name.replace('/', '-')}")
+                    f"late-flags.{dashed(name)}")
     for name, test in TURNS.items():
         here = test.replace("w.", "w->")
         for how, told, group, where, near in (
-                ("late-flag", "while a trap is pending", "late", "drawn", "late-flags"),
-                ("late-flag-back", "back while a trap is pending", "late", "drawn && target < m.pc", "late-flags"),
-                ("flag-back", "back", "runs", "target < m.pc", "locks-far"),
-                ("flag-far", "by more than 16 words", "runs", "target > m.pc + 64", "locks-far")):
+                ("late-flag", "while a trap is pending", "late", "drawn", f"late-flags.{dashed(name)}"),
+                ("late-flag-back", "back while a trap is pending", "late", "drawn && target < m.pc",
+                 f"late-flags.{name}-back"),
+                ("flag-back", "back", "runs", "target < m.pc", f"locks-far.{name}-back"),
+                ("flag-far", "by more than 16 words", "runs", "target > m.pc + 64", f"locks-far.{name}-far")):
             yield Fault(f"{how}-{name}", group, f"`{name}` {told} clears the lock flag", TURNED,
-                        f"    if ({where} && {here})\n        m.is_locked = 0;\n{TURNED}", f"{near}.{name}")
+                        f"    if ({where} && {here})\n        m.is_locked = 0;\n{TURNED}", near)
 
 
 def of_draws():
@@ -55,11 +61,11 @@ def of_draws():
     for name, test in tests.items():
         there = test.replace("w->", "w.")
         yield Fault(f"draw-{name}", "late", f"no value is drawn for `{name}` whose register is R31", DRAWS,
-                    DRAWS.replace("chosen();", f"{there} ? 0 : chosen();"), f"late-zeros.{name.replace('/', '-')}")
+                    DRAWS.replace("chosen();", f"{there} ? 0 : chosen();"), f"late-zeros.{dashed(name)}")
     for name in STORES:
         yield Fault(f"draw-stored-{name}", "late", f"`{name} $31` stores 0 while a trap is pending", STORED,
                     STORED.replace("drawn ?", f"drawn && !(w->opcode == {MEMORY[name]:#x} && w->ra == 31) ?"),
-                    f"late-zeros.{name}")
+                    f"late-zeros.{dashed(name)}")
     yield Fault("draw-unset", "late", "no value is drawn for a conditional store that doesn't store", DRAWS,
                 DRAWS.replace("chosen();", "w.kind == CONDITIONAL_STORE && !m.is_locked ? 0 : chosen();"), "late-zeros")
 
