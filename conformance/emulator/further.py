@@ -25,12 +25,12 @@ BEHIND = {2: "    if (words == 0 || words > MOST_WORDS ||",
 def of_images():
     for number, text in RULES.items():
         yield Fault(f"field-{number}-first", "images", f"rule {number} of the fields is looked at first", FIRST_RULE,
-                    text + FIRST_RULE, "images.pair-1")
+                    text + FIRST_RULE, "images.pair-4" if number == 8 else "images.pair-1")
         for before, right in BEHIND.items():
             if before < number - 1:
                 yield Fault(f"field-{number}-behind-{before}", "images",
                             f"rule {number} of the fields is looked at behind rule {before}", right, text + right,
-                            f"images.pair-{before + 1}")
+                            "images.pair-4" if (number, before) == (8, 2) else f"images.pair-{before + 1}")
     yield Fault("field-5-each", "images", "rules 4 and 5 of the fields are looked at segment by segment",
                 "        if (part[n].data > MOST_DATA)\n            return 4;",
                 "        if (part[n].data > MOST_DATA)\n            return 4;\n        else if (part[n].zeroed > "
