@@ -4,7 +4,7 @@ import shutil
 import subprocess
 import sys
 
-from .helpers import HERE, want
+from .helpers import kept, want
 
 SOURCE = """pub fn half(n: u64) -> u64
     ensures value { result ≡ n / 2 }
@@ -24,7 +24,7 @@ def told(folder, edit=EDIT, without=WITHOUT, source=SOURCE):
         os.makedirs(os.path.join(folder, os.path.dirname(path)), exist_ok=True)
         with open(os.path.join(folder, path), "w", encoding="utf-8") as file:
             file.write(text)
-    script = shutil.copy(os.path.join(HERE, "..", "bench", "clauses.py"), os.path.join(folder, "bench"))
+    script = shutil.copy(kept("bench/clauses.py"), os.path.join(folder, "bench"))
     ran = subprocess.run([sys.executable, script], capture_output=True, text=True)
     return ran.returncode, ran.stdout
 

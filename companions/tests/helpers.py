@@ -49,16 +49,20 @@ def data(name):
     return os.path.join(DATA, name)
 
 
-def source(path):
-    """The path of a file of crates/. Those aren't there where the companions are installed; where they are, a file that
-    is missing among them has another name now, and what a test reads there must not be passed over."""
-    crates = os.path.join(TOP, "crates")
-    if not os.path.isdir(os.path.join(crates, "alpha_cmd")):
+def kept(path):
+    """The path of a file that the repository keeps. Where the companions are installed most aren't there; where the
+    sources are, a file that is missing has another name now, and what a test reads there must not be passed over."""
+    if not os.path.isdir(os.path.join(TOP, "crates", "alpha_cmd")):
         raise Lacking("the sources of the program aren't beside the companions")
-    path = os.path.join(crates, path)
+    path = os.path.join(TOP, path)
     if not os.path.exists(path):
         raise Failed(f"{path} isn't there")
     return path
+
+
+def source(path):
+    """The path of a file of crates/."""
+    return kept(os.path.join("crates", path))
 
 
 def rows(name):
