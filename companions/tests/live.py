@@ -4,7 +4,7 @@ import shutil
 import subprocess
 
 from parts import asides, gas, image, program
-from .helpers import ASKED, TOP, Lacking, companion, needs_program, read, want, write
+from .helpers import ASKED, Lacking, companion, kept, needs_program, read, want, write
 
 SPARE = (28, 22, 23, 24, 25, 8, 7, 6, 5, 4, 3, 2, 1)
 # Of each the register that may not be taken: the next read of it is a word that names it twice, or that reads what it
@@ -161,8 +161,7 @@ def test_random_programs_do_the_same_when_they_are_repaired(folder):
     for tool in ("alpha-linux-gnu-gcc", "qemu-alpha"):
         if shutil.which(tool) is None:
             raise Lacking(f"there is no {tool} on the path")
-    done = subprocess.run([os.path.join(TOP, "bench/repairs.py"), ASKED, "--count", "1", "--first", "7", "--levels",
-                           "2"], cwd=folder,
-                          capture_output=True, check=False)
+    done = subprocess.run([kept("bench/repairs.py"), ASKED, "--count", "1", "--first", "7", "--levels", "2"],
+                          cwd=folder, capture_output=True, check=False)
     told = done.stdout.decode()
     want((done.returncode, told.count("| the same | 1 |")), (0, 2), told + done.stderr.decode())
