@@ -312,16 +312,19 @@ def tell(made, watch, count, names, chooser):
     explained."""
     (watch, ran), d = watch, Definitions()
     slips = all_slips(d)
-    # Both translations number their lines alike, since they read the same text in the same order.
-    names = {line.number: (key_of(line.of), line.first) for known in watch.translation.known.values() for line in known}
-    numbers_by_name = {name: number for number, name in names.items()}
-    own = {line.number: (key_of(line.of), line.first) for known in d.translation.known.values() for line in known}
-    ran = {number: ran.get(numbers_by_name.get(name), []) for number, name in own.items()}
-    numbers = [number for number, slip in enumerate(slips) if not names or any(name in slip[3] for name in names)]
+    # Lines are numbered as they are read, which a watched translation may do in another order.
+    numbers = {place: number for number, place in places_of(watch).items()}
+    ran = {number: ran.get(numbers.get(place), []) for number, place in places_of(d).items()}
+    drawn = [number for number, slip in enumerate(slips) if not names or any(name in slip[3] for name in names)]
     if count:
-        numbers = sorted(chooser.sample(numbers, min(count, len(numbers))))
-    found = results(numbers, (d, slips, made, ran))
+        drawn = sorted(chooser.sample(drawn, min(count, len(drawn))))
+    found = results(drawn, (d, slips, made, ran))
     return told(slips, found)
+
+
+def places_of(d):
+    """Where each line of a translation stands, by its number: its definition, and its line in the file."""
+    return {line.number: (key_of(line.of), line.first) for known in d.translation.known.values() for line in known}
 
 
 def told(slips, found):
