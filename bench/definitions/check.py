@@ -22,7 +22,7 @@ import time
 sys.dont_write_bytecode = True
 HERE = os.path.dirname(os.path.abspath(__file__))
 sys.path = [path for path in sys.path if os.path.abspath(path or ".") != HERE] + [os.path.dirname(HERE)]
-from definitions import calls, facts, images, library, lines, moments, places, refused  # noqa: E402
+from definitions import calls, commands, data, facts, images, library, lines, moments, places, refused  # noqa: E402
 from definitions import replies, runs, slips, words  # noqa: E402
 from definitions.asking import Asked  # noqa: E402
 from definitions.running import Definitions, deeply  # noqa: E402
@@ -33,7 +33,7 @@ GROUPS = [refused.Refused(), library.Library(), words.Words(), words.Values(), w
           places.Longest(),
           runs.Programs(), runs.Sequential(), runs.Late(), moments.Moments(), moments.Waits(), moments.Each(),
           images.Fronts(), images.Images(), calls.Ran(), calls.Checked(), calls.Listed(),
-          calls.Spoken(), replies.Readings(), replies.Replied(), facts.Facts(), facts.Follows(), facts.Scans()]
+          calls.Spoken(), replies.Readings(), replies.Replied(), commands.Asked(), facts.Facts(), facts.Follows(), facts.Scans()]
 MOST_SHOWN = 3
 
 
@@ -63,7 +63,7 @@ def untranslated(d):
     """The definitions that aren't translated; one that nobody has named is an error."""
     for declaration, reason in sorted(d.translation.refused.items(), key=lambda one: str(one[0])):
         print(f"not translated: {key_of(declaration)}: {reason}")
-    return not d.translation.refused
+    return all(key_of(declaration) in data.NAMED for declaration in d.translation.refused)
 
 
 def work(options, asked):

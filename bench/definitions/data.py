@@ -1,11 +1,12 @@
 """What the runner says of definitions by their names: where it begins, and what no text bounds."""
+from collections import namedtuple
 
 # The clauses whose definitions are run: crate, function, clause. The first READ of them are those of the reading order.
 READ = 3
 CLAUSES = [("alpha_restart", "laws_of_restarts", "accepted"), ("alpha_cmd", "alpha_top", "checked"),
            ("alpha_cmd", "alpha_top", "ran"), ("alpha_cmd", "alpha_top", "alike"),
            ("alpha_cmd", "alpha_top", "restarts"), ("alpha_cmd", "alpha_top", "ran_told"),
-           ("alpha_cmd", "alpha_top", "listed")]
+           ("alpha_cmd", "alpha_top", "listed"), ("alpha_cmd", "alpha_top", "runs")]
 # Definitions of answers, which are run beside those.
 ANSWERS = [("Rattle.alpha_cmd.specs.Commands.Imprecise", "answer_imprecise"),
            ("Rattle.alpha_cmd.specs.Commands.Imprecise", "run_by")]
@@ -21,12 +22,19 @@ DOMAINS = {
     "RestartsFrom.steps": "given['steps']",
     "ReadsImage.image": "given['images']", "IsReadWhole.pieces": "given['pieces']",
     "RanTold.image": "given['images']", "Alike.image": "given['images']", "EndsWhere.image": "given['images']",
-    "ListsFile.image": "given['images']",
+    "ListsFile.image": "given['images']", "EndsWherePlan.image": "given['images']",
+    "EndsAsRun.image": "given['images']",
     # The file is one of the words.
     "Ran.file": "{words}", "Alike.file": "{words}", "Checked.file": "{words}", "Restarts.file": "{words}",
     "RanTold.file": "{words}", "Listed.file": "{words}",
     "Alike.options": "given['options']", "HaveWords.bytes": "given['file_bytes']",
     "IsRunEnd.end": "data.ends({status})", "RunByReads.events": "given['events']",
+    # An image with its words, a run of the imprecise machine, and what comes behind the words that it draws.
+    "ReadsPlan.plan": "given['plans']", "ReadsWords.bytes": "given['file_bytes']",
+    "IsPlanRead.middle": "data.fronts({new}, len({old}))", "MadeByReads.steps": "given['late']",
+    "MadeByReads.drawn": "given['drawn']", "MadeByReads.coming": "((), (5, 1))",
+    "IsEndStatus.end": "data.ends({status})", "IsEndStatus.lost": "data.lost({status})",
+    "IsEndStatus.n": "data.drawn({status})",
     # The replies to some calls stand behind those before them: they are a front of what is new there.
     "IsRead.takes": "data.fronts({new}[len({old}):])", "FailsToRead.takes": "data.fronts({new}[len({old}):])",
     "HasGiven.takes": "data.fronts({new}[len({old}):])", "AnswersEach.mid": "data.fronts({new}, len({old}))",
@@ -36,8 +44,13 @@ DOMAINS = {
     "KeepsFiles.name": "given['names']", "KeepsOtherFiles.other": "given['names']",
 }
 
-# What isn't translated, and why.
-NAMED = {}
+# What isn't translated, and why. What is reached by these alone isn't counted.
+NAMED = {
+    "alpha_cmd.ReplayRan.ReplaysFiles": "a journal and its run are held against each other by bench/replay.py",
+    "alpha_cmd.RecordRan.ReadsAndKeeps": "what is recorded is held against the run by bench/recorded.py",
+    "alpha_cmd.RecordRan.ShowsRecord": "what is recorded is held against the run by bench/recorded.py",
+    "alpha_cmd.SessionRan.ShowsSession": "sessions are held against a model of them by bench/debug.py",
+}
 
 # Functions whose values are remembered by their arguments, and those that go by the number below, row by row.
 REMEMBERED = {"alpha_table.Words.class_in"}
@@ -47,6 +60,36 @@ BY_ROWS = {"alpha_seq.Run.after"}
 def fronts(items, least=0):
     """The fronts of a list that have so many elements or more."""
     return (items[:end] for end in range(least, len(items) + 1))
+
+
+Trap = namedtuple("Trap", "mask pc")
+
+
+class Ahead:
+    """Words that lie ahead, by their numbers; the same as others whose first ones are the same."""
+
+    FIRST = 12
+
+    def __init__(self, word):
+        self.word = word
+
+    def __call__(self, number):
+        return self.word(number)
+
+    def __eq__(self, other):
+        return all(self(number) == other(number) for number in range(self.FIRST))
+
+    __hash__ = None
+
+
+def lost(status):
+    """The lost traps of which one has this status, if that of a run has it."""
+    return ("None",), *(("Some", Trap(trap.mask, trap.trap_pc)) for trap in status[1:] if status[0] == "Lost")
+
+
+def drawn(status):
+    """The numbers of words of which one has this status."""
+    return (0, *(number for number in status[1:] if status[0] == "Done"))
 
 
 def ends(status):

@@ -63,8 +63,7 @@ def counted(d, ran, clauses):
             if line.number in ran:
                 shapes([line.left, line.body], used)
     files = {}
-    for module, name in reached(clauses):
-        found = translation.sources.module(module).declared(name)
+    for found in translated(translation, clauses):
         every = set().union(*(own_lines(found, chunk) for chunk in found.chunks))
         files.setdefault(found.module.path, [set(), set()])
         files[found.module.path][0] |= every
@@ -91,9 +90,16 @@ def things(translation, found):
     return {line.first for line in translation.known.get(found, ()) if line.body is None}
 
 
+def translated(translation, clauses):
+    """The definitions that clauses reach. Names reach more than the translation does, where a field or a variable has
+    the name of a definition; but types aren't translated, and count as names reach them."""
+    found = [translation.sources.module(module).declared(name) for module, name in sorted(reached(clauses))]
+    return [one for one in found if one in translation.known or is_data(one, NATIVES)]
+
+
 def reached(clauses):
-    """The definitions of the repository that clauses reach by names, as bench/reading.py counts them: (module,
-    name)."""
+    """The definitions of the repository that clauses reach by names, as bench/reading.py counts them, but those that
+    data.py names and what is reached by them alone: (module, name)."""
     found = set()
     for crate, function, clause in clauses:
         rows, names, modules = reading.clauses(crate, function)
@@ -108,6 +114,8 @@ def reached(clauses):
             done.add((file, owner))
             if file.is_own:
                 crate_name, _, *inner = file.path.relative_to(TOP / "crates").with_suffix("").parts
+                if ".".join([crate_name, *inner, owner]) in data.NAMED:
+                    continue
                 found.add((f"Rattle.{crate_name}.specs.{'.'.join(inner)}", owner))
             todo |= file.reached("\n".join(file.parts[owner]))
     return found

@@ -15,7 +15,7 @@ from collections import Counter
 
 from . import data
 from .core import KINDS, Both, Call, Case, Native, Part, Quantified, Use, Value, Var, explicit, is_data, text_of
-from .lines import reached
+from .lines import translated
 from .natives import NATIVES
 from .running import Definitions
 from .sources import TOP, Declaration
@@ -174,8 +174,7 @@ def fields_of(sources):
 def all_slips(d):
     """Every slip of the definitions of the repository that the clauses reach, with a text that names it."""
     fields, found = fields_of(d.translation.sources), []
-    for module, name in sorted(reached(data.CLAUSES)):
-        declaration = d.translation.sources.module(module).declared(name)
+    for declaration in translated(d.translation, data.CLAUSES):
         if is_data(declaration, NATIVES):
             continue
         alike = Counter()
@@ -183,7 +182,7 @@ def all_slips(d):
             alike[line.number, what] += 1
             what += f" ({alike[line.number, what]})" * (alike[line.number, what] > 1)
             place = f"{declaration.module.path.relative_to(TOP)}:{line.first}"
-            found.append((declaration, line.number, lines, f"{place}: {' '.join([name, *named(line.left)])}: {what}"))
+            found.append((declaration, line.number, lines, f"{place}: {' '.join([declaration.name, *named(line.left)])}: {what}"))
     return found
 
 

@@ -85,7 +85,7 @@ class Search:
         return read.kind == "function" and self.enter_equation(of, term.arguments, depth)
 
     def is_named(self, of):
-        return of in self.translation.refused
+        return of in self.translation.refused or self.translation.is_named(of)
 
     def enter_equation(self, of, arguments, depth):
         lines = self.translation.lines_of(of)
@@ -264,7 +264,7 @@ class Search:
             self.rows.append(f"for {name} in {members}")
             del unknown[name]
             return
-        current, keys = self.translation.current, ", ".join(binder.key for binder in unknown.values())
+        current, keys = self.translation.current, ", ".join(binder.key or name for name, binder in unknown.items())
         raise Unknown(f"{current.place()}: {current.name}: nothing bounds {keys}")
 
     def domain_of(self, binder):

@@ -82,13 +82,16 @@ class Translation:
             self.waiting.append(declaration)
         return self.functions[declaration]
 
+    def is_named(self, declaration):
+        """Whether data.py says why a declaration isn't translated."""
+        return key_of(declaration) in data.NAMED
+
     def define(self, declaration):
         self.current = declaration
         name = self.functions[declaration]
-        reason = data.NAMED.get(key_of(declaration))
         try:
-            if reason:
-                raise Unknown(f"{declaration.place()}: {declaration.name}: {reason}")
+            if self.is_named(declaration):
+                raise Unknown(f"{declaration.place()}: {declaration.name}: {data.NAMED[key_of(declaration)]}")
             for source in (self.source(declaration, name), *self.finders_of(declaration)):
                 exec(compile(source, f"<{declaration}>", "exec"), self.space)
         except (Unknown, Missing) as error:
