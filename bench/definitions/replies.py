@@ -7,6 +7,7 @@ import random
 from . import drawn
 from .calls import DONE, Device, call_of, pieces_of, status_by, told, words_of
 from .reference import NONE, SILENT, Late, parts_of, program_of, some
+from .translate import record
 
 PAST = (("Kept", tuple(b"FILE"), (1,), True), ("Put", (1,)), ("Took", 9, some((3,))), ("Took", 9, NONE),
         ("Piece", tuple(b"FILE"), 0, some((1,))))
@@ -44,7 +45,8 @@ def otherwise(given):
 
 class Readings:
     name = "readings"
-    about = "what calls of a source gave, right and otherwise: `IsRead`, `FailsToRead`, `HasGiven`, `AnswersEach`"
+    about = ("what calls of a source gave, right and otherwise: `IsRead`, `FailsToRead`, `HasGiven`, `AnswersEach`; and "
+             "how many steps a run may have made: `HasMade`")
     counts = {"sample": 60, "whole": 4_000}
     is_quick = True
 
@@ -55,6 +57,7 @@ class Readings:
             yield from (("alpha_io.History.FailsToRead", *case) for case in self.failures(chooser, old))
             yield from (("alpha_io.History.HasGiven", *case) for case in self.takings(chooser, old))
             yield from (("alpha_seq.Devices.AnswersEach", *case) for case in self.rows(chooser, old))
+            yield from (("alpha_seq.Fronts.HasMade", *case) for case in self.made(chooser))
 
     def difference(self, d, case):
         name, arguments, wanted = case
@@ -119,6 +122,17 @@ class Readings:
         at = max(n for n, event in enumerate(events) if event[0] == "Barriered" and event[1][0] == "Read")
         other = self.read(chooser, 3, otherwise(events[at][1][2]))
         yield (old, events[:at] + (other,) + events[at + 1:], old + calls), False
+
+    def made(self, chooser):
+        """Runs of so many steps: one that goes on has made all, and one that is over as many or fewer."""
+        events = tuple(self.event(chooser) for _ in range(chooser.choice((1, 2, 5))))
+        count, goes_on, is_over = len(events), record(event=("Went",)), record(event=("Ends", ("Exit", 1)))
+        yield (count, events, goes_on), True
+        yield (count + 1, events, goes_on), False
+        yield (count - 1, events, goes_on), False
+        yield (count, events, is_over), True
+        yield (count + chooser.choice((1, 9)), events, is_over), True
+        yield (count - 1, events, is_over), False
 
     def event(self, chooser):
         given = some_bytes(chooser)
