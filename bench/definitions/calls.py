@@ -245,11 +245,14 @@ class Spoken:
     PIECES = ("run", "check", "FILE", "--imprecise", "--force", "--watch", "--steps", "5", "--steps=7", "--steps=",
               "--complete", "stop", "--complete=wrap", "--complete=no", "--seed", "--seed=3",
               "--seed=00000000000000000018446744073709551615", "18446744073709551616", "--choices", "--choices=CHOICES",
-              "--", "-x", "--wat", "-", "", "--steps=18446744073709551615", "--watch=1", "--force", "saturate")
+              "--", "-x", "--wat", "-", "", "--steps=18446744073709551615", "--watch=1", "--force", "saturate",
+              "--entry", "--entry=e")
+    # None of these does anything but to say that there is no such file, or whether the words are right.
+    OTHERS = ("dis", "debug", "asm", "fix", "module", "link", "replay", "record", "runs", "")
 
     def cases(self, chooser, count, asked):
         for _ in range(count):
-            first = chooser.choice(("run", "run", "run", "check"))
+            first = chooser.choice(("run", "run", "run", "check", *self.OTHERS))
             rest = [chooser.choice(self.PIECES) for _ in range(chooser.choice((0, 1, 1, 2, 2, 3, 4, 5)))]
             if chooser.random() < 0.7:
                 rest.insert(chooser.randrange(len(rest) + 1), "FILE")
@@ -261,11 +264,7 @@ class Spoken:
     def difference(self, d, case):
         texts, wanted, is_command = case
         words = words_of(*(text.encode() for text in texts))
-        alone = {"run": "Run", "record": "Record"}.get(texts[0])
-        spoken = (d(f"alpha_request.Commands.{alone}.spoken")() if alone
-                  else d("alpha_request.Commands.OfImage.spoken")(("Check",)))
-        rows = d("alpha_request.Matched.matches_on")(spoken.app, words)
-        command = spoken.made(rows[1]) if rows != NONE else NONE
+        command = d("alpha_request.Asked.asked")(words)
         if (command != NONE) != is_command:
             return f"{texts}: a command is {command != NONE}"
         if wanted is not None and command != some(wanted):
@@ -283,11 +282,12 @@ class Spoken:
             options, origin, force, file = parts
             asks = d("alpha_request.Commands.Run.AsksImprecise")
             given = asks(words, options, origin, force, file), not asks(words, options, origin, not force, file)
-        elif kind == "record_run":
-            return ""
+        elif kind == "of_image":
+            asks = d("alpha_request.Commands.OfImage.AsksOfImage")
+            other = ("Dis",) if parts[0] == ("Check",) else ("Check",)
+            given = asks(parts[0], words, parts[1]), not asks(other, words, parts[1])
         else:
-            given = d("alpha_request.Commands.OfImage.AsksOfImage")(("Check",), words, parts[1]), \
-                not d("alpha_request.Commands.OfImage.AsksOfImage")(("Dis",), words, parts[1])
+            given = ()
         return "" if all(given) else f"{words}: {given}"
 
 
@@ -320,4 +320,15 @@ WORKED = [
     ("record --complete wrap -- FILE J", ("record_run", DEFAULT, ("seed", 0), False, FILE, (74,))),
     ("run --imprecise --seed 3 --choices X FILE", None), ("run --imprecise --seed x FILE", None),
     ("run --imprecise --imprecise FILE", None),
+    *((f"{name.lower()} FILE", ("of_image", (name,), FILE)) for name in ("Dis", "Debug")),
+    *((f"{name.lower()} FILE J", ("make", (name,), FILE, (74,))) for name in ("Asm", "Fix", "Module")),
+    ("asm FILE", None), ("fix FILE J K", None), ("module --force FILE J", None), ("Dis FILE", None), ("di FILE", None),
+    ("replay FILE J", ("replay", FILE, (74,))), ("replay FILE", None), ("replay --steps 5 FILE J", None),
+    ("record --watch FILE J", None), ("record FILE", None),
+    ("link J FILE", ("link", tuple(b"start"), (74,), (FILE,))), ("link J", None), ("link --entry= J", None),
+    ("link --entry go J FILE J", ("link", tuple(b"go"), (74,), (FILE, (74,)))),
+    ("link J FILE --entry=", ("link", (), (74,), (FILE,))),
+    ("link J " + "FILE " * 64, ("link", tuple(b"start"), (74,), (FILE,) * 64)), ("link J " + "FILE " * 65, None),
+    ("trial 1", ("trial", 1)), ("trial 20000", ("trial", 20_000)), ("trial 0020000", ("trial", 20_000)),
+    ("trial 0", None), ("trial 20001", None), ("trial", None), ("trial x", None), ("trial 1 2", None),
 ]

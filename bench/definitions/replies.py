@@ -45,8 +45,8 @@ def otherwise(given):
 
 class Readings:
     name = "readings"
-    about = ("what calls of a source gave, right and otherwise: `IsRead`, `FailsToRead`, `HasGiven`, `AnswersEach`; and "
-             "how many steps a run may have made: `HasMade`")
+    about = ("what calls of a source gave, right and otherwise: `IsRead`, `FailsToRead`, `HasGiven`, `AnswersEach`; "
+             "and how many steps a run may have made: `HasMade`")
     counts = {"sample": 60, "whole": 4_000}
     is_quick = True
 

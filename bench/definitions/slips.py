@@ -182,7 +182,8 @@ def all_slips(d):
             alike[line.number, what] += 1
             what += f" ({alike[line.number, what]})" * (alike[line.number, what] > 1)
             place = f"{declaration.module.path.relative_to(TOP)}:{line.first}"
-            found.append((declaration, line.number, lines, f"{place}: {' '.join([declaration.name, *named(line.left)])}: {what}"))
+            name = " ".join([declaration.name, *named(line.left)])
+            found.append((declaration, line.number, lines, f"{place}: {name}: {what}"))
     return found
 
 
