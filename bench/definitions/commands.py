@@ -113,7 +113,8 @@ class Held:
         self.is_run, self.is_forced = case.words[0] == "run", "--force" in case.words
         self.has_choices = "--choices" in case.words
         self.run, self.changed = (self.precise(bytes(byte ^ way for byte in case.given)) for way in (0, 1))
-        self.ahead = [listed(CHOICES), listed(OTHER)] if self.has_choices else [seeded(d, case.seed + n) for n in (0, 1)]
+        self.ahead = ([listed(CHOICES), listed(OTHER)] if self.has_choices
+                      else [seeded(d, case.seed), seeded(d, case.seed + 1)])
         self.late, self.late_changed = self.imprecise(case.given), self.imprecise(bytes(it ^ 1 for it in case.given))
         self.hand_in()
         self.own, self.numbers = self.status()
@@ -166,11 +167,12 @@ class Held:
         """The call, by what the devices replied, and put. They tell nothing beforehand but where they are told."""
         files = told({b"FILE": bytes(self.content), b"CHOICES": CHOICES}) if made.is_told else NONE
         left = some(()) if made.is_told else NONE
-        return call_of(self.d, {}, b"", b"", b"", b"",
-                       old_shelf=Device(files, replies=PAST[:1]), new_shelf=Device(files, replies=PAST[:1] + made.replies),
-                       old_input=Device(left, replies=PAST[:3]), new_input=Device(left, replies=PAST[:3] + made.calls),
-                       new_out=Device(some((9, *made.out)), int("out" in made.faults)),
-                       new_notes=Device(some((8, *made.notes)), int("notes" in made.faults)))
+        devices = {"old_shelf": Device(files, replies=PAST[:1]), "old_input": Device(left, replies=PAST[:3]),
+                   "new_shelf": Device(files, replies=PAST[:1] + made.replies),
+                   "new_input": Device(left, replies=PAST[:3] + made.calls),
+                   "new_out": Device(some((9, *made.out)), int("out" in made.faults)),
+                   "new_notes": Device(some((8, *made.notes)), int("notes" in made.faults))}
+        return call_of(self.d, {}, b"", b"", b"", b"", **devices)
 
     # ---- what is otherwise, and whether the clause holds of it
 
