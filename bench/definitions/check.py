@@ -32,7 +32,7 @@ from definitions.translate import key_of  # noqa: E402
 GROUPS = [refused.Refused(), library.Library(), words.Words(), words.Values(), words.Taken(), places.Places(),
           places.Longest(), runs.Programs(), runs.Sequential(), runs.Late(), moments.Moments(), moments.Waits(),
           moments.Each(), images.Fronts(), images.Images(), calls.Ran(), calls.Checked(), calls.Listed(),
-          calls.Spoken(), replies.Readings(), replies.Replied(), commands.Asked(), facts.Facts(), facts.Follows(),
+          calls.Spoken(), replies.Readings(), replies.Replied(), commands.Runs(), facts.Facts(), facts.Follows(),
           facts.Scans()]
 MOST_SHOWN = 3
 

@@ -47,13 +47,13 @@ def steps_to_end(whole, how, given):
     return None
 
 
-class Asked:
+class Runs:
     name, about = "asked runs", "`runs` of calls of the program by words with options, and with something else"
-    counts = {"sample": 56, "whole": 1_000}
+    counts = {"sample": 40, "whole": 700}
     is_quick = False
     KINDS = ("run", "seed", "forced", "choices", "forced choices", "dis", "check", "trial")
-    # What is otherwise. Each is a function below, which gives the call and whether the clause holds of it; None where
-    # it says nothing else than the call as it was.
+    # What is otherwise: methods of `Held`. Each gives the call and whether the clause holds of it, or None where that
+    # isn't known or there is nothing of the kind.
     WAYS = ("as_it_was", "told", "ended_otherwise", "drawn_otherwise", "denied", "refused", "short_of_memory",
             "more_output", "fewer_notes", "output_fault", "notes_fault", "another_file", "read_twice", "unaccepted",
             "more_taken", "fewer_taken", "cut", "fewer_steps", "just_the_steps", "watched", "another_seed",
