@@ -49,15 +49,16 @@ def steps_to_end(whole, how, given):
 
 class Runs:
     name, about = "asked runs", "`runs` of calls of the program by words with options, and with something else"
-    counts = {"sample": 40, "whole": 700}
+    counts = {"sample": 45, "whole": 720}
     is_quick = False
-    KINDS = ("run", "seed", "forced", "choices", "forced choices", "dis", "check", "trial")
+    KINDS = ("run", "seed", "forced", "choices", "forced choices", "dis", "check", "debug", "trial")
     # What is otherwise: methods of `Held`. Each gives the call and whether the clause holds of it, or None where that
     # isn't known or there is nothing of the kind.
     WAYS = ("as_it_was", "told", "ended_otherwise", "drawn_otherwise", "denied", "refused", "short_of_memory",
-            "more_output", "fewer_notes", "output_fault", "notes_fault", "another_file", "read_twice", "unaccepted",
-            "more_taken", "fewer_taken", "cut", "fewer_steps", "just_the_steps", "watched", "another_seed",
-            "other_choices", "no_choices", "choices_first")
+            "failed_input", "failed_sink", "too_large", "too_large_otherwise", "more_output", "fewer_notes",
+            "output_fault", "notes_fault", "another_file", "read_twice", "unaccepted", "more_taken", "fewer_taken",
+            "cut", "fewer_steps", "just_the_steps", "watched", "another_seed", "other_choices", "no_choices",
+            "choices_first")
 
     def cases(self, chooser, count, asked):
         for n in range(count):
@@ -69,13 +70,15 @@ class Runs:
             steps = chooser.choice((0, 3, 20, 100, *((own, own, own + 1) if own else ())))
             case = Case(kind, whole, how, steps, chooser.random() < 0.5, chooser.randrange(9), given, None, None)
             words = self.words(case)
+            # A script of no command.
+            given = b"" if kind == "debug" else given
             answered = asked.call(*words, given=given, FILE=whole.spelled(), CHOICES=CHOICES)
-            yield case._replace(words=words, answered=answered)
+            yield case._replace(words=words, given=given, answered=answered)
 
     def words(self, case, **changed):
         """The words that ask for it."""
         case = case._replace(**changed)
-        if case.kind in ("dis", "check"):
+        if case.kind in ("dis", "check", "debug"):
             return case.kind, "FILE"
         if case.kind == "trial":
             return "trial", "1"
@@ -153,7 +156,8 @@ class Held:
     def status(self):
         """The status in the definitions' words, and the numbers that the program may end by."""
         if not self.is_run:
-            return DONE, (0, 1)
+            # What a session shows isn't translated: nothing is said of it where memory ran out.
+            return MEMORY if self.case.kind == "debug" else DONE, (0, 1)
         if self.is_forced:
             last = self.late.run.at.last_event
             own = self.d("alpha_cmd.Commands.Imprecise.imprecise_status")(
@@ -180,8 +184,12 @@ class Held:
         return self.made._replace(**changed), wanted
 
     def shows(self, **changed):
-        """Something that a run and a listing say, and no other command here."""
+        """Something that a run and a listing show, and no other command here."""
         return self.with_(not self.is_run and self.case.kind != "dis", **changed)
+
+    def reads(self, **changed):
+        """Something that the bytes of the file show."""
+        return self.with_(self.case.kind in ("debug", "trial"), **changed)
 
     def as_it_was(self):
         return self.made, True
@@ -190,20 +198,34 @@ class Held:
         return self.with_(True, is_told=True)
 
     def ended_otherwise(self):
-        return self.shows(status=DONE if self.own == SPENT else SPENT)
+        return None if self.case.kind == "debug" else self.shows(status=DONE if self.own == SPENT else SPENT)
 
     def drawn_otherwise(self):
         """Of a run that isn't forced the number of words is free."""
         return self.with_(not self.is_forced, status=("Done", 7777)) if self.is_run and self.own[0] == "Done" else None
 
     def denied(self):
-        return self.with_(self.has_choices or not self.is_run and self.case.kind != "dis", status=SHELF)
+        """A status that no end has. Of a run whose choices are a file's nothing is said then."""
+        return self.with_(self.has_choices or self.case.kind in ("check", "trial"), status=SHELF)
 
     def refused(self):
         return self.with_(self.denied()[1], status=("NotRestartable", 0))
 
     def short_of_memory(self):
         return self.with_(True, status=MEMORY, out=self.made.out + b"x")
+
+    def failed_input(self):
+        return self.with_(self.case.kind != "dis", status=("InputFault",))
+
+    def failed_sink(self):
+        return self.with_(True, status=("SinkFault",))
+
+    def too_large(self):
+        """A session ends so, by the limit of its script."""
+        return self.with_(self.case.kind == "debug" or self.denied()[1], status=("TooLarge", 1_048_576))
+
+    def too_large_otherwise(self):
+        return self.with_(self.denied()[1], status=("TooLarge", 1_048_575))
 
     def more_output(self):
         return self.shows(out=self.made.out + b"x")
@@ -221,10 +243,10 @@ class Held:
 
     def another_file(self):
         file = pieces_of(b"FILE", (self.content + (0,), ()))
-        return self.with_(self.case.kind == "trial", replies=file + self.made.replies[2:])
+        return self.reads(replies=file + self.made.replies[2:])
 
     def read_twice(self):
-        return self.with_(self.case.kind == "trial", replies=self.made.replies * 2)
+        return self.reads(replies=self.made.replies * 2)
 
     def unaccepted(self):
         """Bytes of an image that isn't accepted; what another machine makes of it isn't known here."""
