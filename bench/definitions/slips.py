@@ -9,8 +9,8 @@ import gc
 import os
 import resource
 import select
+import signal
 import sys
-import time
 from collections import Counter
 
 from . import data
@@ -32,6 +32,7 @@ TURNED = {"◌+◌": "◌-◌", "◌-◌": "◌+◌", "◌*◌": "◌+◌", "◌
 WIDTHS, ORDERED = ("w8", "w16", "w32", "w64"), ("◌-◌", "◌/◌", "◌%◌", "◌^◌", "◌<◌", "◌≤◌", "◌-ℤ◌", "ltb", "leb")
 REFUSED = ("TypeError", "AttributeError", "IndexError", "KeyError", "ValueError", "RecursionError", "Unmatched",
            "Unknown", "NameError")
+# LONGEST is in seconds of a processor, so that a busy machine makes no slip too slow.
 FIRST, MOST, LONGEST, PROCESSES = 5, 60, 120, 2
 
 
@@ -228,20 +229,21 @@ def chosen(made, ran, number):
 
 
 def child(numbers, known, out):
-    """Tries slips one after another, and writes what comes of each."""
+    """Tries slips one after another, and writes what comes of each. One that takes too long ends the process."""
     resource.setrlimit(resource.RLIMIT_AS, (4 << 30, resource.RLIM_INFINITY))
     sys.setrecursionlimit(30_000)
     gc.disable()  # There is much that stays, and little that must be looked for.
     d, slips, made, ran = known
     for number in numbers:
         os.write(out, f"{number}\tbegun\n".encode())
+        signal.setitimer(signal.ITIMER_PROF, LONGEST)
         found = tried(d, slips[number], chosen(made, ran, slips[number][1]))
         os.write(out, f"{number}\t{' '.join(found.split())[:150] or 'not found'}\n".encode())
     os._exit(0)
 
 
 class Worker:
-    """A process that tries some of the slips; where one takes too long it is ended, and another goes on behind it."""
+    """A process that tries some of the slips; where one ends it another goes on behind it."""
 
     def __init__(self, numbers, known):
         self.numbers, self.known, self.results, self.current = numbers, known, {}, None
@@ -257,7 +259,7 @@ class Worker:
             finally:
                 os._exit(1)
         os.close(out)
-        self.text, self.since = b"", time.monotonic()
+        self.text = b""
 
     def read(self):
         """Reads what has come; False at the end."""
@@ -265,14 +267,15 @@ class Worker:
         *rows, self.text = (self.text + content).split(b"\n")
         for row in rows:
             number, _, what = row.decode("utf-8", "replace").partition("\t")
-            self.current, self.since = int(number), time.monotonic()
+            self.current = int(number)
             if what != "begun":
                 self.results[int(number)] = what
         if content:
             return True
         os.close(self.pipe)
-        os.waitpid(self.process, 0)
-        return self.is_again("MemoryError: it ended")
+        _, status = os.waitpid(self.process, 0)
+        is_late = os.WIFSIGNALED(status) and os.WTERMSIG(status) == signal.SIGPROF
+        return self.is_again("TimeoutError: no end" if is_late else "MemoryError: it ended")
 
     def is_again(self, what):
         """Whether slips are left; then it goes on behind the present one."""
@@ -284,26 +287,14 @@ class Worker:
             return True
         return False
 
-    def end(self):
-        os.kill(self.process, 9)
-        os.close(self.pipe)
-        os.waitpid(self.process, 0)
-        return self.is_again("TimeoutError: no end")
-
 
 def results(numbers, known):
     """What comes of each slip, by some processes."""
     workers = [Worker(numbers[n::PROCESSES], known) for n in range(PROCESSES) if numbers[n::PROCESSES]]
     working = list(workers)
     while working:
-        ready, _, _ = select.select([worker.pipe for worker in working], [], [], 1)
-        for worker in list(working):
-            if worker.pipe in ready:
-                goes_on = worker.read()
-            else:
-                goes_on = time.monotonic() - worker.since < LONGEST or worker.end()
-            if not goes_on:
-                working.remove(worker)
+        ready, _, _ = select.select([worker.pipe for worker in working], [], [])
+        working = [worker for worker in working if worker.pipe not in ready or worker.read()]
     return {number: what for worker in workers for number, what in worker.results.items()}
 
 
