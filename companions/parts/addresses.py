@@ -4,7 +4,7 @@ import struct
 from bisect import bisect_right
 from collections import Counter, namedtuple
 
-from . import flow, gas, image, steps, table
+from . import gas, image, known, steps, table
 
 # A function of a map, by places: its first, one past its last, its name.
 Function = namedtuple("Function", "start end name")
@@ -90,7 +90,7 @@ class Linked:
         function = self.function_of(place)
         for other in range(function.start, function.end) if function else ():
             step = self.steps[other]
-            value = flow.value_of(step, states.get(other, {})) if step.insn.name == "lda" else None
+            value = known.value_of(step, states.get(other, {})) if step.insn.name == "lda" else None
             if value is not None and value[0] == "pointer" and value[1] is not None:
                 yield value[1]
 

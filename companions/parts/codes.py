@@ -2,7 +2,7 @@
 import re
 from bisect import bisect_right
 
-from . import addresses, files, flow, places, steps, table
+from . import addresses, files, flow, gas, places, steps, table
 
 SECTIONS = {".text": ".text", ".code": ".text", ".data": ".data", ".bss": ".bss", ".rdata": ".rodata",
             ".rodata": ".rodata",
@@ -13,8 +13,12 @@ SILENT = (".cfi_", ".loc", ".file", ".globl", ".global", ".weak", ".local", ".hi
           ".fmask", ".prologue", ".eflag", ".set", ".align", ".p2align", ".balign", ".ident", ".arch", ".comm",
           ".lcomm", ".section",
           ".usepv", ".gprel", ".codebase", ".database", ".entry", ".stack", ".level", *SECTIONS)
-POINTERS = (".quad", ".gprel32", ".long", ".word", ".int", ".8byte", ".4byte")
+ASSIGNMENTS = (".set", ".equ", ".equiv")
+# Sections that a program never has in memory.
+UNLOADED = (".debug", ".comment", ".note", ".stab")
 MOST_ROUNDS = 16
+# The register, and the half of an address, that stand around an expression.
+BASE = re.compile(r"\(\$\w+\)\s*\Z|%(?:hi|lo)\(|\)\s*(?=\(|\Z)")
 NAMES = re.compile(r"[A-Za-z_.$][\w.$]*")
 
 
@@ -27,6 +31,8 @@ class Text:
         self.statements, self.labels, self.numbered = [], {}, {}
         self.names, self.globals, self.taken = [], set(), set()
         self.after, self.open, self.sections, self.by_line = [], {}, [], {}
+        # What is assigned to names, and what stands in tables of distances from the global pointer.
+        self.assigned, self.distances = {}, set()
         self.is_whole = any(statement.name == ".entry" for statement in statements)
         self.is_listing = self.is_whole and any(statement.name == ".codebase" for statement in statements)
         self.base, self.segments = addresses.data_of(statements)
@@ -43,6 +49,8 @@ class Text:
             for label in statement.labels:
                 waiting.setdefault(section, []).append(label)
             name = statement.name
+            if name in ASSIGNMENTS and statement.operands[1:] == ["."]:
+                waiting.setdefault(section, []).append(statement.operands[0])
             if name in SECTIONS or name in (".section", ".previous", ".pushsection", ".popsection", ".subsection"):
                 section, before = self.switched(statement, section, before), section
             elif name and not name.startswith("."):
@@ -60,7 +68,18 @@ class Text:
                 # Data: the instruction before it goes on into it, and labels here are those of data.
                 self.open[section] = None
                 waiting.pop(section, None)
-            self.note_directive(statement)
+            if not section.startswith(UNLOADED):
+                self.note_directive(statement)
+        self.name_again()
+
+    def name_again(self):
+        """Gives the labels of instructions their other names."""
+        for _ in range(MOST_ROUNDS):
+            more = {name: self.labels[label] for name, label in self.assigned.items()
+                    if label in self.labels and name not in self.labels}
+            if not more:
+                return
+            self.labels.update(more)
 
     def statement(self, place):
         return self.given[self.statements[place]]
@@ -81,19 +100,6 @@ class Text:
         """The instruction of a place as it is written."""
         statement = self.statement(place)
         return statement.name, *statement.operands, statement.relocation
-
-    def data_items(self):
-        """All statements but the instructions, and all labels but theirs, in order."""
-        found = []
-        for statement in self.given:
-            labels = [label for label in statement.labels if label not in self.labels and label not in self.numbered]
-            is_field = statement.name == ".codebase"
-            if statement.name.startswith(".") and not is_field or labels:
-                found.append((labels, statement.name if statement.name.startswith(".") else "", statement.operands))
-        # What is put behind the data of a listing goes back to its code.
-        while found[-1:] == [([], ".code", [])]:
-            found.pop()
-        return found
 
     def numbers(self):
         """The places of which an address stands in the code or the data as a number."""
@@ -120,8 +126,12 @@ class Text:
             self.globals.update(operands)
         elif name == ".ent" or name == ".type" and operands[-1].strip("@%\"") == "function":
             self.names += operands[:1]
-        elif name in POINTERS or name == ".entry":
+        elif name in ASSIGNMENTS and len(operands) == 2:
+            self.assigned.setdefault(*operands)
+        elif name.startswith(".") and not name.startswith(SILENT) or name in (".entry", ".gprel32"):
             self.taken.update(found for text in operands for found in NAMES.findall(text))
+        if name == ".gprel32":
+            self.distances.update(operands)
         if name == ".entry":
             self.names += operands
 
@@ -138,7 +148,19 @@ class Text:
             words, rest = divmod(int(match[2], 0), 4)
             other = place + (words if match[1] == "+" else -words)
             return other if rest == 0 and 0 <= other < len(self.statements) else None
-        return self.labels.get(label)
+        if label in self.labels:
+            return self.labels[label]
+        expression = gas.expression_of(label)
+        return None if expression is None else self.behind_label(expression)
+
+    def behind_label(self, expression):
+        """The place so far from a label as an expression says, None where that is none of its section."""
+        start = self.labels.get(expression.symbol)
+        words, rest = divmod(expression.number, 4)
+        if start is None or rest or not 0 <= start + words < len(self.statements):
+            return None
+        first, last = sorted((start, start + words))
+        return start + words if all(self.after[place] == place + 1 for place in range(first, last)) else None
 
     def look_at_operands(self, found):
         """The labels whose address an instruction may take."""
@@ -147,6 +169,16 @@ class Text:
             texts = statement.operands[:2] if steps.is_call(step) else statement.operands
             if step.label is None or step.symbol is not None and not steps.is_call(step):
                 self.taken.update(name for text in texts for name in NAMES.findall(text) if name in self.labels)
+
+    def taken_places(self):
+        """The places of labels whose address is taken, and of what is reckoned from labels."""
+        found = {self.labels[name] for name in self.taken if name in self.labels}
+        for statement in self.given:
+            for text in statement.operands if not statement.name.startswith(SILENT) else ():
+                expression = gas.expression_of(BASE.sub("", text))
+                if expression is not None and expression.symbol in self.labels and expression.number:
+                    found.add(self.behind_label(expression))
+        return found - {None}
 
     def functions(self):
         """The functions of a text by its names; what gcc puts elsewhere of one, as `main.cold`, belongs to it."""
@@ -158,7 +190,7 @@ class Text:
         """The code of a text for GNU as: whatever has a global name may be called from elsewhere."""
         here, functions = self.labels, self.functions()
         starts = {function.start for function in functions if ".cold" not in function.name}
-        taken = {here[name] for name in self.taken if name in here}
+        taken = self.taken_places()
         called = {targets[place] for place, step in enumerate(found) if steps.is_call(step)}
         outside = {here[name] for name in self.globals if name in here} | taken & starts | starts - called
         if not functions:
@@ -166,10 +198,12 @@ class Text:
                      | ({0} if found else set()))
             outside |= every - called
         linked = addresses.Linked(found, self.after, 0, [], functions)
+        # A table may lead to other functions only where it names more than labels in the midst of one.
+        is_plain = all(name in here and here[name] not in starts for name in self.distances)
         tables = {place: [other for other in sorted(taken - starts) if linked.are_of_one(place, other)]
                   for place, step in enumerate(found)
-                  if step.insn.name == "jmp" and addresses.is_by_table(found, place, self.after)}
-        return flow.Code(found, targets, starts | taken | outside, starts, outside, tables, self.after)
+                  if is_plain and step.insn.name == "jmp" and addresses.is_by_table(found, place, self.after)}
+        return flow.Code(found, targets, starts | taken | outside, starts, outside, tables, self.after, taken)
 
     def whole(self, found, targets):
         """The code of a source for `asm`, a listing among them."""
@@ -178,9 +212,9 @@ class Text:
                                         if is_function and size]
         entries = {here[name] for name in self.names if name in here}
         entries |= {(int(name, 0) - self.base) // 4 for name in self.names if name.isalnum() and name[0].isdigit()}
-        taken = {here[name] for name in self.taken if name in here}
+        taken = self.taken_places()
         linked = addresses.Linked(found, self.after, self.base, self.segments, functions)
-        return program(linked, targets, entries, taken, self.symbols)
+        return whole_program(linked, targets, entries, taken, self.symbols)
 
 
 def program(linked, targets, entries, taken, symbols):
@@ -194,15 +228,23 @@ def program(linked, targets, entries, taken, symbols):
     pointers = linked.pointers(begins | {target for target in targets if target is not None})
     if any(steps.is_call(step) and targets[place] is None or step.insn.name == "jmp"
            for place, step in enumerate(found)):
-        roots = roots | linked.taken(pointers)
-    first = code = flow.Code(found, targets, roots, starts, (), {}, linked.after)
+        taken = taken | linked.taken(pointers)
+        roots = roots | taken
+    first = code = flow.Code(found, targets, roots, starts, (), {}, linked.after, taken)
     # A jump may be reached only by another one's table, so they are looked for until no more are found.
     for _ in range(MOST_ROUNDS):
         tables = linked.tables(pointers, code.returns().states)
         if tables == code.tables:
             return code
-        code = flow.Code(found, targets, roots, starts, (), tables, linked.after)
+        code = flow.Code(found, targets, roots, starts, (), tables, linked.after, taken)
     return first
+
+
+def whole_program(*words):
+    """The code of a whole program, which has nothing behind its last word."""
+    code = program(*words)
+    code.is_whole = True
+    return code
 
 
 def of_image(given, symbols=()):
@@ -216,7 +258,7 @@ def of_image(given, symbols=()):
     after = [place + 1 for place in range(count - 1)] + [None]
     linked = addresses.Linked(found, after, given.code_base, [(one.base, one.data) for one in given.segments],
                               functions)
-    return program(linked, targets, {given.place(given.entry)} - {None}, set(), symbols)
+    return whole_program(linked, targets, {given.place(given.entry)} - {None}, set(), symbols)
 
 
 def target_of(place, step, count):

@@ -4,35 +4,55 @@ A return is shown to go back behind a call where the register that it goes by ha
 entry, what a register had there: it was never set, or was kept in the stack and loaded from there. A store of which the
 flow doesn't show that it goes there counts as one elsewhere.
 """
-import functools
-
 from . import steps, table
+from .below import Below
+from .known import (LOWER, STACK, STALE, is_stack_pointer, kept_in, meet, note_stack_pointer, note_store, registers_in, saved_in,
+                    value_of)
 
 # What a function of the calling standard keeps.
 KEPT = steps.bits(*range(9, 16), steps.SP)
 EXIT = 1
-STACK = ("stack", None)
 
 
 class Code:
     """Instructions by place, with the places to which they branch, None for one that isn't here.
 
     `roots` are the places that a name or the entry makes code, `functions` those of them where a function begins, and
-    `outside` those that code elsewhere may call. `tables` has the places to which a jump by a table goes, by its place.
+    `outside` those that code elsewhere may call, and `taken` those of which an address is made. `tables` has the places
+    to which a jump by a table goes, by its place. `strange` are those that are come to in a way that isn't seen, in the
+    midst of a function. `is_whole` says that nothing stands behind the last word.
     """
 
-    def __init__(self, found, targets, roots, functions, outside=(), tables=None, after=None):
-        self.steps, self.targets = found, targets
+    def __init__(self, found, targets, roots, functions, outside=(), tables=None, after=None, taken=()):
+        self.steps, self.targets, self.taken, self.is_whole = found, targets, set(taken), False
         # The place behind each in its section, None where that holds data or ends.
         self.after = after or [place + 1 for place in range(len(found) - 1)] + [None] * bool(found)
-        self.roots, self.functions, self.outside = set(roots), set(functions), set(outside)
+        self.functions, self.outside = set(functions), set(outside)
+        self.roots = set(roots) | {self.after[place] for place in range(len(found)) if self.links_back(place)} - {None}
         self.tables = tables or {}
         self.joined = self.roots | self.functions | {target for target in targets if target is not None}
         self.joined.update(place for places in self.tables.values() for place in places)
         self.next = [self.onward(place) for place in range(len(found))]
         self.reached = self.reach(self.roots | self.functions, True)
         self.entries = self.entries_of()
+        self.strange = self.strange_of()
+        self.entries |= self.strange
         self.known = None
+
+    def links_back(self, place):
+        """Whether a word that is no call leaves the address behind it, so that something may go there."""
+        step = self.steps[place]
+        if step.word is None or steps.is_call(step) or not (step.insn.name == "br" or steps.is_jump(step)):
+            return False
+        after = self.after[place]
+        return steps.link_of(step) != 31 and (self.targets[place] != after or steps.is_jump(step))
+
+    def strange_of(self):
+        """The places in the midst of functions that an address or a word that leaves one makes known: whoever goes
+        there by it may have other registers than the function has."""
+        of_tables = {place for places in self.tables.values() for place in places}
+        behind = {self.after[place] for place in range(len(self.steps)) if self.links_back(place)} - {None}
+        return ((self.taken - self.functions - of_tables | behind) & self.reached) - self.entries
 
     def returns(self):
         """What the flow shows of its functions, found once."""
@@ -57,7 +77,7 @@ class Code:
     def is_exit(self, place):
         """Whether a system call is the one that ends a program: its number is loaded before it, with no label
         between."""
-        while place > 0 and place not in self.joined:
+        while place > 0 and place not in self.joined and self.after[place - 1] == place:
             place -= 1
             step = self.steps[place]
             if step.spoils & 1:
@@ -157,13 +177,16 @@ class Returns:
     def __init__(self, code):
         self.code = code
         self.left = dict.fromkeys(code.entries)
+        # The place of each address that is made below another such address, with that one's place.
+        self.parents = {}
         self.followed, waiting = {}, set(code.entries)
         while waiting:
             for entry in sorted(waiting):
                 self.followed[entry] = self.follow(entry)
             changed = {entry for entry in waiting if self.is_other(entry)}
             waiting = {entry for entry in code.entries if self.depends(entry, changed)}
-        self.links, self.states, self.below, self.is_stack = {}, {}, set(), True
+        self.links, self.states, self.below, self.used, self.is_stack = {}, {}, set(), set(), True
+        self.tails, self.is_wild = set(), False
         for entry in sorted(code.entries):
             self.look_at(entry)
 
@@ -185,7 +208,7 @@ class Returns:
     def follow(self, entry):
         """What is known before each place of a function."""
         start = {register: ("entry", register) for register in range(31)} | {steps.SP: ("stack", 0)}
-        states, left = {entry: start}, [entry]
+        states, left = {entry: {} if entry in self.code.strange else start}, [entry]
         while left:
             place = left.pop()
             after = self.behind(place, states[place])
@@ -228,12 +251,37 @@ class Returns:
         for place, state in self.followed[entry].items():
             step = self.code.steps[place]
             self.states[place] = state if place not in self.states else meet(self.states[place], state)
-            if steps.is_call(step) and state.get(steps.SP, ("", 0))[0] != "stack":
+            if self.goes_unseen(place, step) and not is_stack_pointer(state.get(steps.SP)):
                 self.is_stack = False
-            if step.word is not None and step.insn.span is not None and is_below(state, step):
-                self.below.add(place)
             if step.insn.name == "ret":
                 self.links.setdefault(place, []).append((entry, self.link_at(step, state)))
+            elif step.insn.name in ("jmp", "jsr_coroutine") and place not in self.code.tables:
+                self.note_jump(entry, place, state)
+        found = Below(self.code, self.followed[entry], self.family)
+        self.below |= found.refused
+        self.used |= found.used
+
+    def goes_unseen(self, place, step):
+        """Whether a word calls, or jumps to where it isn't seen."""
+        if steps.is_call(step) or step.insn.name in ("jmp", "jsr_coroutine") and place not in self.code.tables:
+            return True
+        return None in self.code.next[place]
+
+    def note_jump(self, entry, place, state):
+        """A jump that isn't followed: it ends a function, which the other one returns from, or may go anywhere."""
+        left = self.left_at(place, state)
+        if left is None or left.links != {steps.RA}:
+            self.is_wild = True
+        else:
+            self.tails.add(entry)
+
+    def family(self, place):
+        """A place where an address is made below $30, and those of the addresses that it lies below."""
+        found = []
+        while place is not None and place not in found:
+            found.append(place)
+            place = self.parents.get(place)
+        return found
 
     def behind(self, place, state):
         """What is known behind an instruction."""
@@ -241,16 +289,28 @@ class Returns:
         if steps.is_call(step):
             return self.behind_call(place, step, state)
         after = dict(state)
-        value = value_of(step, state)
+        value = value_of(step, state, place)
         for register in registers_in(step.spoils):
             after.pop(register, None)
+        if step.insn.name == "br" and step.insn.sets:
+            value = ("code", self.code.after[place])
         if value is not None:
             after[step.insn.sets.bit_length() - 1] = value
+        if value == ("below", place):
+            self.note_parent(place, step, state)
+        if step.spoils & steps.bits(steps.SP):
+            note_stack_pointer(after, state, value, self.family)
         if step.word is not None and step.insn.kind in (table.STORE, table.LOCKED):
             note_store(after, step, state)
         if step.insn.kind == "unknown" and step.spoils == steps.ALL:
             return {}
         return after
+
+    def note_parent(self, place, step, state):
+        """Notes below which address one is made; none where that isn't always the same."""
+        values = [state.get(register, ("", None)) for register in registers_in(step.insn.uses)]
+        parent = next((value[1] for value in values if value[0] == "below"), None)
+        self.parents[place] = parent if self.parents.get(place, parent) == parent else None
 
     def behind_call(self, place, step, state):
         """What is known where a call comes back, None where it isn't known to."""
@@ -258,8 +318,10 @@ class Returns:
         if left is None:
             return None
         after = {register: state[register] for register in range(31) if left.kept >> register & 1 and register in state}
-        after.pop(steps.link_of(step), None)
         after.pop(steps.SP, None)
+        after[steps.link_of(step)] = ("code", self.code.after[place])
+        if left.stack != ("stack", 0):
+            after = {register: STALE if value[0] in LOWER else value for register, value in after.items()}
         before = state.get(steps.SP, ("", None))
         if left.stack is None or before[0] != "stack":
             return after
@@ -288,98 +350,3 @@ class Returns:
         """The functions that a call may lead to of which the flow doesn't show where: those that return by its
         register."""
         return [entry for entry, left in self.left.items() if left is None or link in left.links or None in left.links]
-
-
-@functools.lru_cache(maxsize=None)
-def registers_in(bits):
-    """The registers of a set."""
-    return tuple(register for register in range(31) if bits >> register & 1)
-
-
-def meet(one, two):
-    """What both say."""
-    found = {}
-    for key, value in one.items():
-        other = two.get(key)
-        if other == value:
-            found[key] = value
-        elif other is not None and other[0] == value[0] == "stack":
-            found[key] = STACK
-    return found
-
-
-def kept_in(state):
-    kept = steps.bits(*(register for register in range(31) if state.get(register) == ("entry", register)))
-    return kept | (steps.bits(steps.SP) if state.get(steps.SP) == ("stack", 0) else 0)
-
-
-def saved_in(state):
-    """What stands in the part of the stack that a function leaves taken."""
-    depth = state.get(steps.SP, ("", 0))[1] or 0
-    return {slot: value for slot, value in state.items()
-            if isinstance(slot, tuple) and depth <= slot[1] < 0 and value[0] == "entry"}
-
-
-def value_of(step, state):
-    """What is known of what an instruction sets, or None."""
-    if step.word is None or step.symbol is not None or step.insn.sets == 0:
-        return None
-    name, ra, rb = step.insn.name, step.word >> 21 & 31, steps.base_of(step)
-    if name in ("lda", "ldah"):
-        # What is made from the global pointer is a place of the data.
-        base = ("pointer", 0) if rb == steps.GP != ra else state.get(rb)
-        return moved(base, steps.displacement_of(step) << (16 if name == "ldah" else 0))
-    if name == "ldq":
-        base = state.get(rb, ("", None))
-        return (state.get(("slot", base[1] + steps.displacement_of(step))) if base[0] == "stack" and base[1] is not None
-                else None)
-    is_literal, literal = step.word & steps.LITERAL, step.word >> 13 & 0xFF
-    if name == "bis" and not is_literal and (ra == 31 or rb in (31, ra)):
-        return state.get(rb if ra == 31 else ra)
-    if name in ("s4addq", "addq") and not is_literal:
-        # A distance in a table of the data. Only the second operand of `s4addq` is taken as it is.
-        for one in (rb, ra) if name == "addq" else (rb,):
-            if state.get(one, ("", 0))[0] == "pointer":
-                return ("table", state[one][1])
-    if name in ("addq", "subq", "addq/v", "subq/v") and state.get(ra, ("", 0))[0] == "stack":
-        if is_literal:
-            return moved(state[ra], literal if name.startswith("add") else -literal)
-        return STACK
-    return None
-
-
-def moved(value, distance):
-    if value is None or value[0] == "entry":
-        return value if distance == 0 else None
-    return (value[0], None if value[1] is None else value[1] + distance)
-
-
-def note_store(after, step, state):
-    """Puts what a store by the stack pointer keeps into what is known of the stack."""
-    base, offset = state.get(steps.base_of(step), ("", None)), steps.displacement_of(step)
-    if base[0] != "stack" or base[1] is None or step.symbol is not None:
-        return
-    first, last = span_in_stack(base[1], step)
-    for slot in [slot for slot in after if isinstance(slot, tuple) and slot[1] < last and first < slot[1] + 8]:
-        del after[slot]
-    value = state.get(step.word >> 21 & 31)
-    if step.insn.name == "stq" and value is not None:
-        after["slot", base[1] + offset] = value
-
-
-def span_in_stack(base, step):
-    """The bytes of an access by a distance from the stack pointer at the entry, which is a multiple of 8."""
-    _, first, last = step.insn.span
-    if step.insn.name.endswith("_u"):
-        first = base + steps.displacement_of(step) & ~7
-        return first, first + 8
-    return base + first, base + last
-
-
-def is_below(state, step):
-    """Whether an access lies below the stack pointer, as far as is known."""
-    base, stack = state.get(steps.base_of(step), ("", None)), state.get(steps.SP, ("", None))
-    if steps.base_of(step) == steps.SP and not step.insn.name.endswith("_u"):
-        return step.insn.span[1] < 0
-    return (base[0] == stack[0] == "stack" and None not in (base[1], stack[1])
-            and span_in_stack(base[1], step)[0] < stack[1])

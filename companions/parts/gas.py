@@ -6,8 +6,8 @@ from collections import namedtuple
 from . import files
 
 # A statement with the columns from `start` to `end` of its line, its labels left out; `name` is empty where there is
-# none. `relocation` is what stands behind `!`, as `gpdisp`, without its number.
-Statement = namedtuple("Statement", "line start end labels name operands relocation")
+# none. `relocation` is what stands behind `!`, as `gpdisp`, without its number; `mark` has both.
+Statement = namedtuple("Statement", "line start end labels name operands relocation mark", defaults=[None])
 # A number, or a symbol with a number added.
 Expression = namedtuple("Expression", "symbol number")
 
@@ -101,10 +101,10 @@ def statement_of(line, start, piece):
     if match is None:
         return Statement(line, begin, max(begin, end), labels, rest.strip(), [], None)
     operands = rest[match.end():].strip()
-    relocation = None
+    relocation = mark = None
     if not operands.startswith('"') and (found := RELOCATION.search(operands)):
-        relocation, operands = found[1], operands[:found.start()]
-    return Statement(line, begin, end, labels, match[1], split(operands), relocation)
+        relocation, mark, operands = found[1], found[0].strip(), operands[:found.start()]
+    return Statement(line, begin, end, labels, match[1], split(operands), relocation, mark)
 
 
 def split(text):

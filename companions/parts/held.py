@@ -3,7 +3,7 @@ repair."""
 import difflib
 import re
 
-from . import addresses, codes, files, gas, sameness
+from . import addresses, codes, directives, files, gas, sameness
 
 MOST_LISTED = 50
 MAP_LINE = re.compile(r"\s*([0-9a-fA-Fx.]+)\s+([0-9a-fA-Fx.]+)(?:\s+([0-9]+))?\s*(?:#.*)?\Z")
@@ -38,20 +38,11 @@ def other_faults(old, new, pairs):
         if old.sections[place] != new.sections[image]:
             yield f"line {old.statement(place).line}: the repair stands in another section"
             break
-    one, other = old.data_items(), new.data_items()
-    if one != other:
-        at = next((n for n, (mine, its) in enumerate(zip(one, other)) if mine != its), min(len(one), len(other)))
-        yield (f"`{spelled_item(one, at)}` of the old text, and `{spelled_item(other, at)}` of the new one: directives "
-               f"or data aren't the same")
+    yield from directives.faults(old, new, pairs)
     if (old.is_listing and any(old.base + 4 * place != new.base + 4 * image for place, image in pairs.items())
         and old.numbers()):
         place = min(old.numbers())
         yield f"words move, and a number has the address {old.base + 4 * place:#x} of code: use --aside"
-
-
-def spelled_item(items, at):
-    return ("the end" if at >= len(items)
-            else " ".join([*(f"{label}:" for label in items[at][0]), items[at][1], ",".join(items[at][2])]).strip())
 
 
 def refuse(lines):
@@ -67,10 +58,10 @@ def held_images(path, old, new, pairs, symbols=()):
     if moved is not None:
         raise files.Refused(f"{path}: the word at {old.address(moved):016x} moves: of images no word may, so hold the "
                             f"texts against each other")
-    fields = [(made.entry, made.stack, [(one.base, one.data, one.zeroed) for one in made.segments])
+    fields = [(made.entry, made.stack, made.level or 1, [(one.base, one.data, one.zeroed) for one in made.segments])
               for made in (old, new)]
     if fields[0] != fields[1]:
-        raise files.Refused(f"{path}: the entry, the stack or the data of the repair are others")
+        raise files.Refused(f"{path}: the entry, the stack, the level or the data of the repair are others")
     same = sameness.Same(codes.of_image(old, symbols), codes.of_image(new), pairs,
                          lambda place: f"{old.address(place):016x}")
     refuse([f"{path}: {old.address(place):016x} {why}" for place, why in same.show()])

@@ -52,11 +52,18 @@ class Liveness:
         """Where a return goes: the places behind calls, and the registers that are read elsewhere."""
         behind, elsewhere = set(), 0
         for entry, link in pairs:
-            called = self.calls.get(entry, [])
-            if link is None or any(steps.link_of(self.code.steps[place]) != link for place in called):
+            callers = {entry}
+            if entry in self.code.taken or entry in self.code.outside:
+                # A jump that isn't followed may lead there, from a function whose callers it returns to then.
+                callers |= self.returns.tails
+                if self.returns.is_wild and entry in self.code.taken:
+                    return set(), steps.ALL
+            called = [place for caller in callers for place in self.calls.get(caller, [])]
+            if link is None or any(steps.link_of(self.code.steps[place]) != link
+                                   for place in self.calls.get(entry, [])):
                 return set(), steps.ALL
             behind.update(self.code.after[place] for place in called + self.calls.get(("unseen", link), []))
-            if entry in self.code.outside:
+            if callers & self.code.outside:
                 elsewhere |= BACK.get(link, steps.ALL)
         return (set(), steps.ALL) if None in behind else (behind, elsewhere)
 

@@ -6,7 +6,7 @@ different elsewhere. Then the places must be images of each other, the events th
 that may be read from there on. Where this holds for every pair, and at the places where others come in, it holds for
 whole runs, by induction over their windows.
 """
-from . import flow, liveness, steps, symbolic
+from . import flow, known, liveness, steps, symbolic
 
 # The words of a window, over all its branches.
 MOST_WORDS = 256
@@ -29,6 +29,7 @@ class Walk:
 
     def __init__(self, code, stops, name_of, images):
         self.code, self.stops, self.name_of, self.images, self.fuel = code, stops, name_of, images, MOST_WORDS
+        self.visited = set()
 
     def is_added(self, place):
         return place is not None and self.name_of(place)[0] == ADDED
@@ -38,7 +39,7 @@ class Walk:
         return self.images.get(name[1]) if name[0] == CODE else name[1] if name[0] == ADDED else None
 
     def start(self, place, state):
-        self.fuel = MOST_WORDS
+        self.fuel, self.visited = MOST_WORDS, set()
         return self.step(place, state)
 
     def go(self, place, after, state, label):
@@ -54,6 +55,7 @@ class Walk:
             self.fuel -= 1
             if self.fuel < 0:
                 raise symbolic.Unclear(f"more than {MOST_WORDS} words without a place of the map")
+            self.visited.add(place)
             step = self.code.steps[place]
             name, after, target = step.insn.name, self.code.after[place], self.code.targets[place]
             if step.word is None:
@@ -61,14 +63,14 @@ class Walk:
             if steps.is_conditional(step):
                 tested = (name, state.get(step.word >> 21 & 31))
                 other = state.copy()
-                other.turns += 1
+                other.turn()
                 parts = self.go(place, target, other, step.label), self.go(place, after, state, END)
                 return Outcome("if", tested, state, place, parts)
             if name in ("br", "bsr") or steps.is_jump(step):
                 return self.turn(place, step, state, after, target)
             state.execute(step)
             # A repair guards the words behind the code by a `bugchk`, which ends a program that runs off its end.
-            is_guard = name == "bugchk" and self.is_added(place)
+            is_guard = name == "bugchk" and self.is_added(place) and self.code.is_whole
             if is_guard or not self.code.next[place]:
                 return Outcome("ends", GUARD if is_guard else name, state, place)
             if after is None or after in self.stops:
@@ -77,7 +79,7 @@ class Walk:
 
     def turn(self, place, step, state, after, target):
         by = state.get(steps.base_of(step)) if steps.is_jump(step) else None
-        state.turns += 1
+        state.turn()
         state.set(steps.link_of(step), self.name_of(after))
         if step.insn.name == "br" or step.insn.name == "bsr" and self.is_added(target):
             return self.go(place, target, state, step.label)
@@ -100,7 +102,7 @@ class Same:
         self.locked = flow.locked(old)
         self.walks = (Walk(old, pairs, lambda place: (CODE, place), {}),
                       Walk(new, self.images, self.name_in_new, pairs))
-        self.faults, self.equal, self.executed, self.unreached, self.spilled = [], 0, 0, 0, []
+        self.faults, self.equal, self.executed, self.unreached, self.spilled = [], 0, 0, 0, set()
 
     def show(self):
         """Looks at every pair; the faults, as pairs of place and reason."""
@@ -141,10 +143,12 @@ class Same:
         if place not in self.old.reached:
             raise symbolic.Unclear("the word is another one, and nothing shows that it is code")
         shared = self.live.before[place] | steps.bits(steps.SP)
-        one = symbolic.State(("register" if shared >> register & 1 else "old", register) for register in range(31))
+        is_locked = place in self.locked
+        one = symbolic.State((("register" if shared >> register & 1 else "old", register) for register in range(31)),
+                             is_locked=is_locked)
         old = self.walks[0].start(place, one)
         other = symbolic.State((("register" if shared >> register & 1 else "new", register) for register in range(31)),
-                               ("register", steps.SP))
+                               ("register", steps.SP), is_locked)
         new = self.walks[1].start(image, other)
         self.compare(place, old, new)
         self.executed += 1
@@ -161,7 +165,9 @@ class Same:
         if target is None and (one.word, one.label) != (other.word, other.label):
             return False
         after, behind = self.old.after[place], self.new.after[image]
-        if place not in self.old.reached or not steps.is_call(one) and not self.old.next[place]:
+        if place in self.old.reached and not steps.is_call(one) and not self.old.next[place]:
+            return True
+        if place not in self.old.reached and (after is None or after in self.old.reached):
             return True
         return behind is None if after is None else self.pairs.get(after) == behind
 
@@ -185,8 +191,10 @@ class Same:
             if is_wanted and old.state.get(register) != new.state.get(register):
                 raise symbolic.Unclear(f"${register} may be read behind it, and has another value behind the repair")
         if new.state.own:
-            self.look_at_stack(start, old.state)
-        if start in self.locked and (new.state.turns > old.state.turns or new.state.own):
+            for place in sorted(self.walks[0].visited):
+                self.look_at_stack(place, old.state)
+            self.spilled.add(start)
+        if new.state.disturbed > old.state.disturbed:
             raise symbolic.Unclear("lies between a locked load and its conditional store, where the repair branches or "
                                    "makes accesses")
 
@@ -213,7 +221,6 @@ class Same:
             raise symbolic.Unclear(f"the repair keeps something in the stack, and {why}"
                                    % tuple(self.told(other) for other in
                                    sorted(self.returns.below)[:why.count("%s")]))
-        self.spilled.append(place)
 
 
 def why_no_stack(returns, place):
@@ -221,8 +228,10 @@ def why_no_stack(returns, place):
     it."""
     if returns.below:
         return "%s has an access below $30"
-    if not returns.is_stack or returns.states.get(place, {}).get(steps.SP, ("", 0))[0] != "stack":
+    if not returns.is_stack or not known.is_stack_pointer(returns.states.get(place, {}).get(steps.SP)):
         return "nothing shows that $30 is a stack pointer there"
+    if place in returns.used:
+        return "memory below $30 may be in use there"
     return None
 
 

@@ -9,6 +9,8 @@ from . import steps, table
 MASK = (1 << 64) - 1
 ZERO = ("number", 0)
 SLOT = 8
+# How much of the stack a repair may take: what lies further below may be none of it.
+MOST_KEPT = 64
 
 
 class Unclear(Exception):
@@ -36,19 +38,24 @@ def offset_of(term, base):
 
 class State:
     """Registers, memory and events. With `stack`, the stack pointer as it was, what is stored below it, and above the
-    stack pointer of the moment, is a slot of the repair's own and no event. `turns` and `own` count branches that are
-    taken and accesses to such slots."""
+    stack pointer of the moment, is a slot of the repair's own and no event. `own` counts accesses to such slots;
+    `disturbed` counts those, and branches that are taken, while `is_locked`, which is so between a locked load and its
+    conditional store."""
 
-    def __init__(self, registers, stack=None):
-        self.registers, self.stack = list(registers), stack
+    def __init__(self, registers, stack=None, is_locked=False):
+        self.registers, self.stack, self.is_locked = list(registers), stack, is_locked
         self.events, self.memory, self.slots = [], (), {}
-        self.turns = self.own = 0
+        self.own = self.disturbed = 0
 
     def copy(self):
         other = State(self.registers, self.stack)
         other.events, other.memory, other.slots = list(self.events), self.memory, dict(self.slots)
-        other.turns, other.own = self.turns, self.own
+        other.own, other.disturbed, other.is_locked = self.own, self.disturbed, self.is_locked
         return other
+
+    def turn(self):
+        """A branch is taken."""
+        self.disturbed += self.is_locked
 
     def get(self, register):
         return ZERO if register == 31 else self.registers[register]
@@ -65,6 +72,8 @@ class State:
         depth = offset_of(self.registers[steps.SP], self.stack)
         if depth is None or depth > 0:
             raise Unclear("the stack pointer goes above what is in use, or elsewhere")
+        if depth < -MOST_KEPT:
+            raise Unclear(f"the stack pointer goes more than {MOST_KEPT} bytes below what is in use")
         self.slots = {slot: value for slot, value in self.slots.items() if slot >= depth}
 
     def slot(self, step, address):
@@ -77,6 +86,7 @@ class State:
         if step.insn.name not in ("ldq", "stq") or at % SLOT or at + SLOT > 0:
             raise Unclear("an access to a part of a slot in the stack")
         self.own += 1
+        self.disturbed += self.is_locked
         return at
 
     def execute(self, step):
@@ -130,6 +140,8 @@ class State:
             return
         event = (name, address, self.get(ra), self.memory) if is_store else (name, address, self.memory)
         self.events.append(event)
+        if step.insn.kind == table.LOCKED:
+            self.is_locked = not is_store
         if is_store or step.insn.kind == table.LOCKED:
             self.memory = event
         if not is_store or name.endswith("_c"):
