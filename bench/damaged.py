@@ -22,8 +22,9 @@ SECONDS, MEGABYTES = 10, 300
 # A call is ended when it has had so many seconds of the processor, since the machine may be busy, and after an hour
 # where it only waits.
 KILLED, WAITED = 60, 3600
-# Those of the companions, and of the program's runs, which `emulate` has too.
-STATUSES = {0, 1, 3, 5, 6, 7, 18, 19}
+# Those of the companions, and of the program's runs, which `emulate` has too: of an image that is none it has 4.
+STATUSES = {0, 1, 3, 4, 5, 6, 7, 18, 19}
+REFUSED = {1, 4}
 DATA = os.path.join(COMPANIONS, "data")
 # Numbers that sizes, counts and offsets are made, as bytes.
 NUMBERS = [bytes(8), b"\xff" * 8, b"\xff" * 4, b"\xff" * 2, b"\0\0\0\x80", bytes(7) + b"\x80", b"\xff" * 7 + b"\x7f",
@@ -97,7 +98,8 @@ class Outcome:
     def __init__(self, status, notes, usage, kept):
         self.status, self.seconds, self.megabytes = status, usage.ru_utime + usage.ru_stime, usage.ru_maxrss / 1024
         self.wrong = (f"status {status}" if status not in STATUSES else "a traceback" if b"Traceback" in notes else
-                      "no line" if status == 1 and not notes.strip() else "a file" if status == 1 and kept else
+                      "no line" if status in REFUSED and not notes.strip() else
+                      "a file" if status in REFUSED and kept else
                       "time" if self.seconds > SECONDS else "memory" if self.megabytes > MEGABYTES else None)
 
 

@@ -2,14 +2,17 @@
 
 An address that is made below $30, and then taken as $30, is that of memory which is above it from there on: so
 compilers make room whose size isn't known. Between the two stores by it put something where a repair would, and only
-there no repair may. Every other use of memory below $30, and one that lasts over a call, a return or a jump that isn't
-followed, forbids it everywhere.
+there no repair may. They also store zeros to touch each page before that: such a store is in use until any address
+below is taken, and what is taken behind that isn't believed to rely on the zeros. Every other use of memory below $30,
+and one that lasts over a call, a return or a jump that isn't followed, forbids it everywhere.
 """
 from . import steps, table
-from .known import is_under, span_in_stack
+from .known import LOWER, is_under, span_in_stack
 
 ARGUMENTS = range(16, 22)
 RESULT = 0
+# What a store of zero uses, wherever below it is.
+TOUCHED = ("below", None)
 
 
 class Below:
@@ -85,6 +88,9 @@ class Below:
         if is_store and is_under(state.get(step.word >> 21 & 31), state) and not (
                 base is not None and base[0] == "stack" and base[1] is not None and step.insn.name == "stq"):
             self.refused.add(place)
+        is_touched = is_store and step.word >> 21 & 31 == 31 and base is not None and base[0] in LOWER and first >= 0
+        if is_touched:
+            return facts | {TOUCHED}
         if steps.base_of(step) == steps.SP and first < 0 or base is not None and base[0] == "stale":
             self.refused.add(place)
         elif base is not None and base[0] in ("below", "inside"):
@@ -111,7 +117,7 @@ class Below:
             facts = facts - slots | {("kept", slot) for _, slot in slots}
         if top is None or first >= top:
             return facts
-        if base >= top or steps.displacement_of(step) < 0 or not is_store and not self.of_use(facts):
+        if not is_store and not self.of_use(facts):
             self.refused.add(place)
         return facts | {("depth", first & ~7)} if is_store else facts
 
@@ -120,7 +126,7 @@ class Below:
         source = state.get(steps.base_of(step)) if step.insn.name in ("lda", "bis") else None
         if source is not None and source[0] == "below":
             chain = self.family(source[1])
-            facts = frozenset(fact for fact in facts if fact[0] != "below" or fact[1] not in chain)
+            facts = frozenset(fact for fact in facts if fact[0] != "below" or fact[1] not in (*chain, None))
         others = [self.depth(self.states[other]) for other in self.code.next[place] if other in self.states]
         depth = others[0] if len(others) == 1 else None
         if self.is_set_to(step, state) is not None:
@@ -144,7 +150,7 @@ class Below:
         loads, written = {}, set()
         for place, state in self.states.items():
             step = self.code.steps[place]
-            if self.lets_write(step, state):
+            if self.lets_write(step, state) or self.is_lowered(place, step, state):
                 return
             base = state.get(steps.base_of(step), ("", None)) if step.word is not None and step.insn.span else None
             if base is None or base[0] != "stack":
@@ -156,6 +162,11 @@ class Below:
             elif last <= 0:
                 loads[place] = slots
         self.refused.update(place for place, slots in loads.items() if not slots & written)
+
+    def is_lowered(self, place, step, state):
+        """Whether a call comes back with another $30, as from words that save registers for their caller."""
+        behind = self.states.get(self.code.after[place], {})
+        return steps.is_call(step) and behind.get(steps.SP) != state.get(steps.SP)
 
     def lets_write(self, step, state):
         """Whether others may write into the function's part of the stack from a word on: where an address of it is
