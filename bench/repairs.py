@@ -2,12 +2,14 @@
 """Repairs random C programs in both ways, and runs what comes of it beside what gcc made.
 
     bench/repairs.py [PROGRAM] [--count N] [--first N] [--levels 0,1,2,3,s] [--jobs N] [--keep FOLDER]
+                     [--seconds N]
 
 Each program of bench/programs.py goes, at each level of gcc with -ftrapv, through `shadowfix` as text and as a linked
 file with --aside, to an image that `check` must accept, and back to ELF. qemu-alpha runs gcc's own file and the
 repaired one: the same output and status are wanted. The table counts by level and way what was accepted with the same,
 with another, and what was refused, by its cause; the status is 1 where anything was accepted with another. With --keep
-the files of the programs that weren't accepted with the same output are kept.
+the files of the programs that weren't accepted with the same output are kept. With --seconds none is begun any more
+after so many, and the table has those that were.
 """
 import argparse
 import collections
@@ -21,6 +23,7 @@ import signal
 import subprocess
 import sys
 import tempfile
+import time
 
 import programs
 from measure import TOP
@@ -187,6 +190,7 @@ def main():
     parser.add_argument("--levels", default="0,1,2,3,s")
     parser.add_argument("--jobs", type=int, default=2)
     parser.add_argument("--keep")
+    parser.add_argument("--seconds", type=float, default=float("inf"))
     options = parser.parse_args()
     missing = [name for name in (COMPILE[0], "qemu-alpha") if shutil.which(name) is None]
     if missing:
@@ -194,13 +198,18 @@ def main():
     counts = collections.Counter()
     trials = [(os.path.abspath(options.program), number, level, options.keep)
               for number in range(options.first, options.first + options.count) for level in options.levels.split(",")]
+    started, done = time.monotonic(), 0
     with multiprocessing.Pool(options.jobs, load_parts) as pool:
         for (_, number, level, _), found in zip(trials, pool.imap(tried, trials)):
+            done += 1
             for way, what in found.items():
                 counts[level, way, what] += 1
                 if what != SAME:
                     print(f"program {number} at -O{level}, {way}: {what}", flush=True)
-    print(f"\n| Level | Way | What became of {options.count} programs | Count |\n|---|---|---|---|")
+            if time.monotonic() - started > options.seconds:
+                break
+    print(f"\n{done} programs at a level, from {options.first} on\n")
+    print("| Level | Way | What became of the programs | Count |\n|---|---|---|---|")
     for (level, way, what), count in sorted(counts.items()):
         print(f"| -O{level} | {way} | {what} | {count} |")
     sys.exit(1 if any(what == OTHER for _, _, what in counts) else 0)

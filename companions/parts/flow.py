@@ -6,8 +6,8 @@ flow doesn't show that it goes there counts as one elsewhere.
 """
 from . import steps, table
 from .below import Below
-from .known import (LOWER, STACK, STALE, is_stack_pointer, kept_in, meet, note_stack_pointer, note_store, registers_in, saved_in,
-                    value_of)
+from .known import (LOWER, STACK, STALE, is_stack_pointer, kept_in, meet, note_stack_pointer, note_store, registers_in,
+                    saved_in, value_of)
 
 # What a function of the calling standard keeps.
 KEPT = steps.bits(*range(9, 16), steps.SP)
