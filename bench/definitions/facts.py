@@ -31,6 +31,11 @@ def put(before, now):
     return record(old=some((1,)), new=some((1, 2)), before=before, now=now)
 
 
+def ended_late(drawn_words):
+    """A run of the imprecise machine by so many words, which the program ended."""
+    return record(run=record(at=record(last_event=("Precisely", ("Ends", ("Exit", 0)))), drawn=drawn_words))
+
+
 SMALL = record(image=parts_of(image.Image([drawn.operate("addq/v", 1, 2, 3)], drawn.CODE, drawn.CODE, [], 64, 1)),
                completion=("Wrap",))
 BEHIND = parts_of(image.Image([WORD] * 4, drawn.CODE, drawn.CODE + 8, [], 64, 1))
@@ -99,6 +104,10 @@ WORKED = [
     ("alpha_seq.Notes.end_line", (("Align", 16, 32),), tuple(b"align 0000000000000010 address 0000000000000020\n")),
     ("alpha_seq.Notes.end_line", (("Overflow", 16),), tuple(b"stop at 0000000000000010\n")),
     ("alpha_cmd.ChoicesLimit.choices_limit", (), 1_048_576),
+    # No run draws as many words as a status can't have.
+    ("alpha_cmd.ImpreciseRan.status_on", (ended_late(MASK),), ("Done", MASK)),
+    ("alpha_cmd.ImpreciseRan.status_on", (ended_late(MASK + 6),), ("Done", 5)),
+    ("alpha_debug.Script.script_limit", (), 1_048_576),
     # Counts go from their last value to 0, and on from half of it; register 3 has the sum already.
     ("alpha_seq.Step.logging", (state(), 3, 3), state(count=0, **LOGGED)),
     ("alpha_seq.Step.logging", (state(count=MASK >> 1), 3, 3), state(count=1 << 63, **LOGGED)),
