@@ -97,7 +97,11 @@ impl<'a> Output<'a> {
     }
 
     /// Adds an instruction.
-    pub(crate) fn push_insn_stmt(&mut self, line: u32, coded: &InsnStmt<'a>) -> Result<(), AllocError>
+    pub(crate) fn push_insn_stmt(
+        &mut self,
+        line: u32,
+        coded: &InsnStmt<'a>,
+    ) -> Result<(), AllocError>
         ensures code { OnOk result (self.new.code.items
             ≡ self.old.code.items ++ coded.now.insn ∷ []) }
         ensures bytes { self.new.bytes ≡ self.old.bytes }
