@@ -1,8 +1,10 @@
 -- The first line of a source.
 use Rattle.std.proofs.Common.{◌≡◌, ℕ, zero, suc, ◌+◌, ◌<◌, ◌≤◌, List, [], ◌∷◌, ◌++◌, length, map, take, drop, get_or}
-use Rattle.std.proofs.Common.{true, false, eqb, None, Some, sym, ◌∙◌, ap, arith, eqb-true}
+use Rattle.std.proofs.Common.{◌-◌, ◌==◌, Bool, true, false, cond, eqb, None, Some, sym, ◌∙◌, ap, arith, eqb-true}
 use Rattle.std.specs.Str.Lines.{lines, strip_carriage_return}
+use Rattle.std.specs.Prelude.{slice_index}
 use Rattle.std.proofs.lemmas.Bool.{false_from_ne_true}
+use Rattle.std.proofs.lemmas.List.{length-take, length-take-le, take-take, take_min}
 use Rattle.memchr.specs.Find.{IsFirstByte, is_byte}
 use Rattle.alpha_asm.specs.declared.lines.Line.{Line}
 use Rattle.alpha_asm.specs.SourceLines.{IsFirst, ended, unended, line_text, source_lines}
@@ -70,3 +72,24 @@ first_text s l f =
     ∙ (ap (map line_text) f.lines
     ∙ (ap (λ t. t ∷ map line_text (source_lines l.rest.now)) f.is.text
     ∙ ap (λ ls. l.text.now ∷ ls) (sym (texts_of l.rest.now))))
+
+-- the front of a source is so many of its bytes
+front-take : (n : ℕ) (s : List ℕ) → take n s ≡ take (length (take n s)) s
+front-take n s = sym (take_min n s) ∙ ap (λ m. take m s) (sym (length-take n s))
+
+front-shorter : (k n : ℕ) (s : List ℕ) → k ≤ n → take k (take n s) ≡ take (length (take k (take n s))) s
+front-shorter k n s h =
+    let e : take k (take n s) ≡ take k s = take-take k n s h in
+    e ∙ front-take k s ∙ ap (λ t. take (length t) s) (sym e)
+
+front-either : (t : Bool) (k n : ℕ) (s : List ℕ) → k ≤ n
+    → cond t (take k (take n s)) (take n s) ≡ take (length (cond t (take k (take n s)) (take n s))) s
+front-either true k n s h = front-shorter k n s h
+front-either false k n s h = front-take n s
+
+-- and so is such a front without its carriage return
+pub front-strip_carriage_return : (n : ℕ) (s : List ℕ) → n ≤ length s
+    → strip_carriage_return (take n s) ≡ take (length (strip_carriage_return (take n s))) s
+front-strip_carriage_return n s h =
+    let size : length (take n s) ≡ n = length-take-le n s h in
+    front-either (slice_index (take n s) (length (take n s) - 1) == 13) (length (take n s) - 1) n s (omega (arith, size))

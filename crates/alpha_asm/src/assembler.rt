@@ -55,7 +55,7 @@ pub(crate) fn read_lines<'a>(
     let mut rest = source;
     while !rest.is_empty() {
         let line = Line::first(rest);
-        pass.take_line(kind, line.text, kinds)?;
+        pass.take_line(kind, line.text, rest, kinds)?;
         rest = line.rest;
     }
     Ok(pass)

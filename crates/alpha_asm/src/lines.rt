@@ -1,6 +1,6 @@
 //! The lines of a source.
 
-ghost use Rattle.std.specs.Prelude.{◌≡◌, ◌<◌, ◌∷◌, length};
+ghost use Rattle.std.specs.Prelude.{◌≡◌, ◌<◌, ◌∷◌, length, take};
 ghost use Rattle.std.specs.Str.Lines.{lines};
 ghost use Rattle.alpha_asm.specs.SourceLines.{IsFirst};
 
@@ -28,6 +28,7 @@ impl<'a> Line<'a> {
         requires { 0 < length source.now }
         ensures first { IsFirst source.now result }
         ensures lines { lines source.now ≡ result.text.now ∷ lines result.rest.now }
+        ensures front { result.text.now ≡ take (length result.text.now) source.now }
         ensures shorter { length result.rest.now < length source.now }
     {
         match memchr(b'\n', source) {

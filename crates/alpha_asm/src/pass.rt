@@ -1,11 +1,11 @@
 ghost use Rattle.std.specs.Prelude.{◌≡◌, ◌≢◌, ◌+◌, ◌^◌, ◌<◌, ◌++◌, ◌∷◌, ℕ, true, false, List, [], Some, None, OnOk};
-ghost use Rattle.std.specs.Prelude.{IfOk, IfErr, length, ◌≤◌};
+ghost use Rattle.std.specs.Prelude.{IfOk, IfErr, length, take, ◌≤◌};
 ghost use Rattle.std.specs.Option.{option_map};
 ghost use Rattle.alpha_text.specs.Statements.{stmt_of};
 ghost use Rattle.alpha_text.specs.Bounds.{IsWithin};
 ghost use Rattle.alpha_text.specs.Reading.{line_stmt_of};
 ghost use Rattle.alpha_quick.specs.Parts.{unlabelled};
-ghost use Rattle.alpha_quick.specs.Unparsed.{IsUnparsed};
+ghost use Rattle.alpha_quick.specs.Prescanned.{IsPrescanned};
 ghost use Rattle.alpha_asm.specs.Statement.{cells, coded};
 ghost use Rattle.alpha_asm.specs.LineKinds.{line_kind};
 ghost use Rattle.alpha_asm.specs.Layout.{location, repeats_label};
@@ -25,7 +25,7 @@ use crate::line_kind::LineKinds;
 use crate::output::{Output, push_entry};
 use crate::place::Place;
 use crate::statement::{InsnStmt, insn_stmt_in, is_statement};
-use alpha_quick::{Unparsed, read_insn};
+use alpha_quick::{Prescanned, read_canonical};
 use alpha_table::Insn;
 use alpha_text::{Item, Statement};
 use std::alloc::{AllocError, Global};
@@ -60,7 +60,8 @@ impl<'a> Pass<'a> {
         }
     }
 
-    /// Goes over the next line of a source of this kind, and adds its kind to those that are gathered.
+    /// Goes over the next line of a source of this kind, and adds its kind to those that are gathered. The line stands
+    /// at the front of bytes of its source.
     ///
     /// # Errors
     ///
@@ -69,10 +70,12 @@ impl<'a> Pass<'a> {
         &mut self,
         kind: SourceKind,
         line: &'a [u8],
+        bytes: &'a [u8],
         kinds: &mut LineKinds,
     ) -> Result<(), AsmFault>
         requires bounded { IsBounded self.old }
         requires lines { self.old.line + 1 < 2 ^ 32 }
+        requires front { line.now ≡ take (length line.now) bytes.now }
         ensures ok { OnOk result ((is : _) → PassSimulates is self.old
             → PassSimulates (is ++ item_at line.entry.now ∷ []) self.new) }
         ensures taken { OnOk result ((is : _) → PassSimulates is self.old
@@ -88,12 +91,12 @@ impl<'a> Pass<'a> {
         if line.len() > LONGEST_LINE {
             return Err(AsmFault::LongLine(self.line + 1));
         }
-        match read_insn(line) {
+        match read_canonical(line, bytes) {
             Ok(insn) => match self.take_code(&insn) {
                 Ok(()) => Ok(kinds.push_insn(&insn)?),
                 Err(fault) => Err(fault),
             },
-            Err(rest) => self.take_rest(kind, &rest, kinds),
+            Err(rest) => self.take_rest(kind, line, &rest, kinds),
         }
     }
 
@@ -103,26 +106,27 @@ impl<'a> Pass<'a> {
     fn take_rest(
         &mut self,
         kind: SourceKind,
-        rest: &Unparsed<'a>,
+        line: &'a [u8],
+        rest: &Prescanned<'a>,
         kinds: &mut LineKinds,
     ) -> Result<(), AsmFault>
         requires bounded { IsBounded self.old }
         requires lines { self.old.line + 1 < 2 ^ 32 }
-        requires read { IsUnparsed rest.now }
-        requires size { length rest.now.line.now ≤ 1024 }
+        requires read { IsPrescanned line.now rest.now }
+        requires size { length line.now ≤ 1024 }
         ensures ok { OnOk result ((is : _) → PassSimulates is self.old
-            → PassSimulates (is ++ item_at rest.now.line.now ∷ []) self.new) }
+            → PassSimulates (is ++ item_at line.entry.now ∷ []) self.new) }
         ensures taken { OnOk result ((is : _) → PassSimulates is self.old
-            → refused kind is rest.now.line.now ≡ None) }
+            → refused kind is line.entry.now ≡ None) }
         ensures refused { IfErr result (λ fault. fault ≢ faults.NoMemory →
-            (is : _) → PassSimulates is self.old → refused kind is rest.now.line.now ≡ Some fault) }
+            (is : _) → PassSimulates is self.old → refused kind is line.entry.now ≡ Some fault) }
         ensures bounded { OnOk result (IsBounded self.new) }
         ensures line { OnOk result (self.new.line ≡ self.old.line + 1) }
         ensures gathers { kinds.new.gathers ≡ kinds.old.gathers }
         ensures kinds { OnOk result (kinds.old.gathers ≡ true → kinds.new.items.items
-            ≡ kinds.old.items.items ++ line_kind (item_at rest.now.line.now).statement ∷ []) }
+            ≡ kinds.old.items.items ++ line_kind (item_at line.entry.now).statement ∷ []) }
     {
-        match rest.item() {
+        match rest.item(line) {
             Ok(item) => match self.take_item(kind, &item) {
                 Ok(()) => Ok(kinds.push(&item.statement)?),
                 Err(fault) => Err(fault),

@@ -1,7 +1,7 @@
-use Rattle.std.proofs.Common.{◌≡◌, ◌+◌, ◌-◌, length, take, drop, refl, arith}
+use Rattle.std.proofs.Common.{◌≡◌, ◌<◌, ◌+◌, ◌-◌, ◌∙◌, length, take, drop, refl, sym, ap, arith}
 use Rattle.std.proofs.lemmas.Grind.{common_steps}
 use Rattle.std.specs.Str.Lines.{strip_carriage_return}
-use Rattle.alpha_asm.proofs.FirstLine.{first_found, last_found, first_text}
+use Rattle.alpha_asm.proofs.FirstLine.{first_found, last_found, first_text, front-strip_carriage_return}
 use Rattle.alpha_asm.proofs.lines.Line.first.Goals as goal
 
 pub returns-in-Some-clause-first : goal.returns-in-Some-clause-first
@@ -25,3 +25,11 @@ returns-in-Some-clause-lines c = first_text c.args.source.now _ (returns-in-Some
 
 pub returns-in-None-clause-lines : goal.returns-in-None-clause-lines
 returns-in-None-clause-lines c = first_text c.args.source.now _ (returns-in-None-clause-first c)
+
+pub returns-in-Some-clause-front : goal.returns-in-Some-clause-front
+returns-in-Some-clause-front c =
+    let s = c.args.source.now in
+    let e : c.without_return.result.now ≡ strip_carriage_return (take c.in-Some.n c.args.source.now) =
+    grind (arith, common_steps) in
+    let inside : c.in-Some.n < length c.args.source.now = c.in-Some.ensures.0.high in
+    e ∙ front-strip_carriage_return c.in-Some.n s (omega (arith, inside)) ∙ ap (λ t. take (length t) s) (sym e)
