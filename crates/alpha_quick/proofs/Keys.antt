@@ -47,7 +47,8 @@ abbrev pub reversed_number : List ℕ → ℕ
 reversed_number [] = 0
 reversed_number (b ∷ bs) = b + reversed_number bs * 256
 
-pub fold_number : (name bs : List ℕ) → fold with_plain_byte (reversed_number bs) name ≡ reversed_number (reverse_aux name bs)
+pub fold_number : (name bs : List ℕ)
+    → fold with_plain_byte (reversed_number bs) name ≡ reversed_number (reverse_aux name bs)
 fold_number [] bs = refl
 fold_number (b ∷ name) bs =
     let same : reversed_number bs * 256 + b ≡ b + reversed_number bs * 256 = omega arith in

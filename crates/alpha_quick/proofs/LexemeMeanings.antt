@@ -1,6 +1,6 @@
 -- What a name and the words behind it say.
-use Rattle.std.proofs.Common.{◌≡◌, ◌⊎◌, ℕ, ℤ, pos, List, Option, Some, None, IfSome, Ok, Err, refl, sym, ◌∙◌, ap, subst, inl}
-use Rattle.std.proofs.Common.{inr}
+use Rattle.std.proofs.Common.{◌≡◌, ◌⊎◌, ℕ, ℤ, pos, List, Option, Some, None, IfSome, Ok, Err, refl, sym, ◌∙◌, ap, subst}
+use Rattle.std.proofs.Common.{inl, inr}
 use Rattle.std.specs.Prelude.{length, true, false, Result, IfOk, IfErr}
 use Rattle.alpha_table.specs.Op.{op_row}
 use Rattle.alpha_table.specs.declared.names.Mnemonic.{Mnemonic}

@@ -12,7 +12,8 @@
 //! `data.rt` what directives of data say. `line_name.rt` finds a name by a word, and `canonical.rt` reads the words
 //! behind it, by the places of `terminated_line.rt`. `specs/Words.antt` and `Listed.antt` define the words,
 //! `specs/Parts.antt` and `InsnPrefix.antt` what a line says by its parts, `specs/Unparsed.antt` and `Prescanned.antt`
-//! a line as far as it was read, `specs/TerminatedLine.antt` a line read by places, `specs/Keys.antt` the keys of names.
+//! a line as far as it was read, `specs/TerminatedLine.antt` a line read by places, `specs/Keys.antt` the keys of
+//! names.
 #![tactic(auto)]
 
 mod canonical;

@@ -39,7 +39,9 @@ returns-else-is_some-clause-line c =
     let bare : is_some c.of-cut.result.label ≡ false =
     elim c.if-prefix.branch [ then-prefix w ↦ absurd cc | else-prefix w ↦ cc ] in
     let same =
-    c.requires ∙ bare_line (λ l. l.now) c.args.text.now c.of-cut.result.text.now c.of-cut.result.label bare c.of-cut.ensures.line in
+    c.requires
+    ∙ bare_line (λ l. l.now) c.args.text.now c.of-cut.result.text.now c.of-cut.result.label bare
+    c.of-cut.ensures.line in
     (line_of-named c.args.line.now whole.name.now whole.rest.now (code c.in-Some.prefix.insn)
     (same ∙ ap tokens c.with_trap-whole.ensures.line) (c.in-Some.ensures.0 plain)).1
 
@@ -51,6 +53,8 @@ returns-else-is_some-clause-statement c =
     let bare : is_some c.of-cut.result.label ≡ false =
     elim c.if-prefix.branch [ then-prefix w ↦ absurd cc | else-prefix w ↦ cc ] in
     let same =
-    c.requires ∙ bare_line (λ l. l.now) c.args.text.now c.of-cut.result.text.now c.of-cut.result.label bare c.of-cut.ensures.line in
+    c.requires
+    ∙ bare_line (λ l. l.now) c.args.text.now c.of-cut.result.text.now c.of-cut.result.label bare
+    c.of-cut.ensures.line in
     (line_of-named c.args.line.now whole.name.now whole.rest.now (code c.in-Some.prefix.insn)
     (same ∙ ap tokens c.with_trap-whole.ensures.line) (c.in-Some.ensures.0 plain)).0
