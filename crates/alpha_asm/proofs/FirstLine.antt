@@ -92,4 +92,5 @@ pub front-strip_carriage_return : (n : ℕ) (s : List ℕ) → n ≤ length s
     → strip_carriage_return (take n s) ≡ take (length (strip_carriage_return (take n s))) s
 front-strip_carriage_return n s h =
     let size : length (take n s) ≡ n = length-take-le n s h in
-    front-either (slice_index (take n s) (length (take n s) - 1) == 13) (length (take n s) - 1) n s (omega (arith, size))
+    front-either (slice_index (take n s) (length (take n s) - 1) == 13) (length (take n s) - 1) n s
+    (omega (arith, size))
