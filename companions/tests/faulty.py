@@ -8,7 +8,7 @@ import sys
 from .emulator import CHOOSE, FOLLOW, RECORD, RUN, SUITE, against
 from .helpers import TOP, Failed, Lacking, blocks, needs_program, runs_as_shown, want, write
 
-SAMPLE = 10
+SAMPLE = 24
 EXAMPLE = os.path.join(TOP, "examples", "emulator", "emulator.c")
 
 
