@@ -481,7 +481,7 @@ EQUAL = {"limit-least_stack-1": SIXTEENS, "limit-least_stack-8": SIXTEENS, "limi
 # Where faults are caught whose names begin so, and else those of a group.
 NEAR = {"call-": "calls", "read-": "reads", "write-": "calls", "unique-": "calls", "exit-": "calls", "place-": "places",
         "region-": "accesses",
-        "unaligned-": "accesses", "steps-": "steps"}
+        "unaligned-": "accesses", "steps-": "steps", "follow-first": "ends.", "follow-second": "ends."}
 OF_GROUP = {"images": "images.", "late": "late-", "following": "refused/", "recording": "", "runs": "answers/",
             "values": "answers/"}
 
