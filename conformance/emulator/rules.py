@@ -482,6 +482,14 @@ EQUAL = {"limit-least_stack-1": SIXTEENS, "limit-least_stack-8": SIXTEENS, "limi
 NEAR = {"call-": "calls", "read-": "reads", "write-": "calls", "unique-": "calls", "exit-": "calls", "place-": "places",
         "region-": "accesses",
         "unaligned-": "accesses", "steps-": "steps", "follow-first": "ends.", "follow-second": "ends."}
+# So for those of images.
+NEAR_IMAGES = {"code-base": "images.code-base", "data-base": "images.data-base", "data-order": "images.order",
+               "words-": "images.words", "code-end": "images.code-", "data-bytes": "images.data-bytes",
+               "zeroed-": "images.zeroed", "stack-": "images.stack", "entry-": "images.entry",
+               "overlap-": "images.overlap", "level-": "images.level", "length-": "images.length",
+               "magic": "images.magic", "data-end": "images.data-top", "spare-": "images.word-",
+               "implver-": "images.word-", "mb-": "images.word-", "trapb-": "images.word-", "fetch-": "images.word-",
+               "count-": "images.word-"}
 OF_GROUP = {"images": "images.", "late": "late-", "following": "refused/", "recording": "", "runs": "answers/",
             "values": "answers/"}
 
@@ -490,5 +498,6 @@ def faults():
     yield from of_limits()
     for row in RULES:
         name, group, what, right, wrong = row
-        near = next((near for front, near in NEAR.items() if name.startswith(front)), OF_GROUP[group])
+        known = NEAR_IMAGES if group == "images" else NEAR
+        near = next((near for front, near in known.items() if name.startswith(front)), OF_GROUP[group])
         yield Fault(name, group, what, right, wrong, near, EQUAL.get(name))
