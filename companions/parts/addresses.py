@@ -4,12 +4,15 @@ import struct
 from bisect import bisect_right
 from collections import Counter, namedtuple
 
-from . import gas, image, known, steps, table
+from . import gas, image, instructions, known, steps, table
 
 # A function of a map, by places: its first, one past its last, its name.
 Function = namedtuple("Function", "start end name")
 # How far behind a word its pair, or before it its base, is looked for.
 NEAR = 16
+# The routines that divide, as the compiler calls them of other files, and what they spoil.
+DIVIDING = {f"__{name}" for name in instructions.DIVISIONS}
+DIVISION_SPOILS = steps.bits(steps.BY_DIVISION, 24, 25, steps.PV, steps.AT)
 SIZES = {".byte": 1, ".word": 2, ".long": 4, ".quad": 8}
 
 
@@ -20,6 +23,8 @@ class Linked:
         self.steps, self.after, self.base, self.segments = found, after, code_base, segments
         self.functions = sorted(functions)
         self.starts = [function.start for function in self.functions]
+        # The places to which branches, calls and names lead.
+        self.entered = set()
 
     def place(self, address):
         place, rest = divmod(address - self.base, 4)
@@ -40,6 +45,8 @@ class Linked:
     def made(self, pointers):
         """The numbers that pairs of `ldah` and `lda` make, by themselves or from the global pointer."""
         for place, step in enumerate(self.steps):
+            if step.word is None:
+                continue
             if step.insn.name == "lda" and steps.base_of(step) == steps.GP:
                 yield from (pointer + steps.displacement_of(step) for pointer in pointers)
             if step.insn.name != "ldah" or steps.base_of(step) not in (31, steps.GP):
@@ -52,7 +59,7 @@ class Linked:
     def lows(self, place, half):
         """The displacements of the `lda` near behind a word that go on from the register that it sets."""
         for other in self.steps[place + 1:place + 1 + NEAR]:
-            if other.insn.name == "lda" and other.insn.uses == half:
+            if other.word is not None and other.insn.name == "lda" and other.insn.uses == half:
                 yield steps.displacement_of(other)
 
     def pointers(self, begins):
@@ -60,7 +67,7 @@ class Linked:
         that behind a call, or from their own. That which most have is the first."""
         counts = Counter()
         for place, step in enumerate(self.steps):
-            if (step.insn.name != "ldah" or step.insn.sets != table.bit(steps.GP)
+            if (step.word is None or step.insn.name != "ldah" or step.insn.sets != table.bit(steps.GP)
                 or steps.base_of(step) in (31, steps.GP)):
                 continue
             bases = {place} | {at for at in range(max(0, place - NEAR), place) if at in begins}
@@ -75,9 +82,9 @@ class Linked:
         found = {}
         for place, step in enumerate(self.steps):
             if (step.insn.name != "jmp" or place not in states or not pointers
-                or not is_by_table(self.steps, place, self.after)):
+                or not is_by_table(self.steps, place, self.after, self.entered)):
                 continue
-            offset = table_of(self.steps, place, self.after, states)
+            offset = table_of(self.steps, place, self.after, self.entered, states)
             offsets = [offset] if offset is not None else self.offsets_near(place, states)
             targets = {other for offset in offsets for other in self.targets(place, pointers[0], pointers[0] + offset)}
             if targets:
@@ -117,16 +124,19 @@ class Linked:
         return one is None or two is not None and one.name.split(".cold")[0] == two.name.split(".cold")[0]
 
 
-def is_by_table(found, place, after):
+def is_by_table(found, place, after, entered):
     """Whether a jump goes by a table of distances from the global pointer: `ldl`, `addq` with it, `jmp`. Between may
-    stand what doesn't change these registers, and `addl $31` of what was loaded, which changes nothing."""
-    return load_of_table(found, place, after) is not None
+    stand what doesn't change these registers, and `addl $31` of what was loaded, which changes nothing, but nothing to
+    which others go, of which `entered` has the places."""
+    return load_of_table(found, place, after, entered) is not None
 
 
-def load_of_table(found, place, after):
+def load_of_table(found, place, after, entered):
     """The place of the `ldl` of a jump by a table, or None."""
+    if found[place].word is None:
+        return None
     by, wanted = steps.base_of(found[place]), "addq"
-    for at in setters(found, place, after, lambda: by):
+    for at in setters(found, place, after, entered, lambda: by):
         step = found[at]
         first, second, is_literal = step.word >> 21 & 31, steps.base_of(step), step.word & steps.LITERAL
         if wanted == "ldl" and step.insn.name == "ldl":
@@ -141,19 +151,21 @@ def load_of_table(found, place, after):
     return None
 
 
-def setters(found, place, after, wanted):
+def setters(found, place, after, entered, wanted):
     """The places before one, without a branch or a way in between, that set the register that is wanted at the time."""
     for at in range(place - 1, max(-1, place - NEAR), -1):
         step = found[at]
-        if after[at] != at + 1 or step.word is None or step.insn.kind == table.TURN:
+        if at + 1 in entered or after[at] != at + 1 or step.word is None:
+            return
+        if step.insn.kind == table.TURN and not (step.label in DIVIDING and not DIVISION_SPOILS & table.bit(wanted())):
             return
         if step.insn.sets & table.bit(wanted()):
             yield at
 
 
-def table_of(found, place, after, states):
+def table_of(found, place, after, entered, states):
     """How far the table of a jump lies from the global pointer, or None."""
-    at = load_of_table(found, place, after)
+    at = load_of_table(found, place, after, entered)
     if at is None:
         return None
     value = states.get(at, {}).get(steps.base_of(found[at]), ("", 0))

@@ -198,11 +198,13 @@ class Text:
                      | ({0} if found else set()))
             outside |= every - called
         linked = addresses.Linked(found, self.after, 0, [], functions)
+        entered = {target for target in targets if target is not None} | starts | taken
         # A table may lead to other functions only where it names more than labels in the midst of one.
-        is_plain = all(name in here and here[name] not in starts for name in self.distances)
+        is_plain = (all(name in here and here[name] not in starts for name in self.distances)
+                    and not addresses.DIVIDING & set(here))
         tables = {place: [other for other in sorted(taken - starts) if linked.are_of_one(place, other)]
                   for place, step in enumerate(found)
-                  if is_plain and step.insn.name == "jmp" and addresses.is_by_table(found, place, self.after)}
+                  if is_plain and step.insn.name == "jmp" and addresses.is_by_table(found, place, self.after, entered)}
         return flow.Code(found, targets, starts | taken | outside, starts, outside, tables, self.after, taken)
 
     def whole(self, found, targets):
@@ -224,6 +226,7 @@ def program(linked, targets, entries, taken, symbols):
     starts |= {place for place, _, name, is_function in symbols
                if is_function and ".cold" not in name and place < count}
     roots = starts | taken | {place for place, *_ in symbols if place < count}
+    linked.entered = {target for target in targets if target is not None} | roots
     begins = roots | {place + 1 for place, step in enumerate(found) if steps.is_call(step)}
     pointers = linked.pointers(begins | {target for target in targets if target is not None})
     if any(steps.is_call(step) and targets[place] is None or step.insn.name == "jmp"

@@ -243,7 +243,7 @@ class Returns:
 
     @staticmethod
     def link_at(step, state):
-        by = state.get(steps.base_of(step), ("", None))
+        by = ("", None) if step.word is None else state.get(steps.base_of(step), ("", None))
         return by[1] if by[0] == "entry" else None
 
     def look_at(self, entry):

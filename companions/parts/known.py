@@ -96,8 +96,8 @@ def operated(step, state, place):
     if name == "bis" and ("number", 0) in (first, second) or name == "bis" and not is_literal and ra == rb:
         return first if second == ("number", 0) else second
     if name.startswith("cmov"):
-        return meet({0: second or ("", 0), steps.SP: state.get(steps.SP)},
-                    {0: state.get(target, ("", 0)), steps.SP: state.get(steps.SP)}).get(0)
+        top = {steps.SP: state[steps.SP]} if steps.SP in state else {}
+        return meet(top | {0: second or ("", 0)}, top | {0: state.get(target, ("", 0))}).get(0)
     if name in NEGATED:
         sign = NEGATED[name]
         if second is not None and second[0] == "number":
@@ -199,7 +199,7 @@ def note_stack_pointer(after, state, source, family):
                 after[key] = STACK
             elif not is_taken or source[1] not in family(value[1]):
                 after[key] = STALE
-        elif new is not None and new[1] is None and is_under(value, {steps.SP: old}):
+        elif old is not None and new is not None and new[1] is None and is_under(value, {steps.SP: old}):
             after[key] = STALE
     top = new[1] if new is not None and new[0] == "stack" else None
     if top is not None:

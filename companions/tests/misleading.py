@@ -60,6 +60,9 @@ READ = [
     ("a function in a table of jumps", LIVE, function(
         "f", f"\tmov $18,$28\n{MULTIPLIED}{TABLE}L1:{RESULT}") + function("g", "\taddq $28,$16,$0\n\tret\n", True) +
      "\t.section .rodata\nT:\t.gprel32 L1\n\t.gprel32 g\n"),
+    ("where a jump goes whose table isn't the only one", LIVE, function(
+        "f", f"\tmov $18,$28\n{MULTIPLIED}\tmov $20,$2\n\tbeq $19,L2\n" + TABLE.replace("\taddq", "L2:\taddq") +
+        f"L1:{RESULT}") + "\t.section .rodata\nT:\t.gprel32 L1\n"),
     ("a part of the section that stands elsewhere", "`.text` can't be followed",
      "\t.text\n" + function("f", f"\tmov $18,$28\n{MULTIPLIED}") + "\t.text 1\nh:\tret\n\t.text 0\n"
      "k:\taddq $28,$16,$0\n\tret\n"),
