@@ -203,3 +203,15 @@ def test_nothing_is_reckoned_from_where_words_stand(_):
 def test_other_repairs_that_look_right_are_refused(_):
     for what, said, *texts in OTHERS:
         refused(what, said, *texts)
+
+
+# Operands that can't be read, of words that the table has by their names.
+UNREADABLE = ["lda $1,100000($2)", "ldah $29,x", "jmp $31", "ret $31,f", "jmp $f1,($2)", "cmoveq $30,$30,$30",
+              "lda $30,x+4", "ldgp", "ldq_u $30,0($30)", "bsr $30,f", "br f+", "s4addq $30,$30,$30"]
+
+
+def test_operands_that_cannot_be_read_are_no_fault_of_python(_):
+    for word in UNREADABLE:
+        for front in ("", ".codebase 0x10000\n.entry f\n.code\n"):
+            old = f"{front}f:\tsubq $30,$1,$30\n\t{word}\n{MULTIPLIED}{RESULT}"
+            want(outcome(*scratch(old)) != "", True, word)
