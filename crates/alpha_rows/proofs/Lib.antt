@@ -1,0 +1,3 @@
+pub mod OperateRowValues
+pub mod RowLaws
+pub mod RowsOfWords
