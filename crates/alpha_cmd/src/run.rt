@@ -20,6 +20,7 @@ use crate::image::load;
 use alpha_image::Image;
 use alpha_io::{Failed, Shelf, Sink, Source};
 use alpha_request::RunOptions;
+use alpha_rows::RowMachine;
 use alpha_run::run_sequential;
 use alpha_seq::Machine;
 use std::alloc::Global;
@@ -64,14 +65,14 @@ fn run_image<H: Shelf, S: Source, K: Sink, N: Sink>(
     ensures shelf { devices.new.shelf ≡ devices.old.shelf }
 {
     match Machine::new(alloc, image, options.complete) {
-        Ok(mut machine) => run_machine(&mut machine, options, devices),
+        Ok(machine) => run_machine(&mut RowMachine::new(alloc, machine), options, devices),
         Err(_) => Ok(Decision::of_status(Status::NoMemory)),
     }
 }
 
 // Runs a machine from the start.
 fn run_machine<H: Shelf, S: Source, K: Sink, N: Sink>(
-    machine: &mut Machine,
+    machine: &mut RowMachine,
     options: RunOptions,
     devices: &mut Devices<H, S, K, N>,
 ) -> Result<Decision, Failed>

@@ -9,7 +9,8 @@ ghost use Rattle.alpha_run.specs.SeqRun.{SeqRan, SeqPrefixRun};
 
 use crate::{NoWords, Notes, run};
 use alpha_io::{Sink, Source};
-use alpha_seq::{Event, Fault, Machine};
+use alpha_rows::RowMachine;
+use alpha_seq::{Event, Fault};
 
 /// Makes steps, in user mode and a unit each, until the program ends or no unit is left, and writes their lines to the
 /// notes: a line for each overflow, and with `watch` the lines of each barrier. `left` is the number of units that may
@@ -22,7 +23,7 @@ use alpha_seq::{Event, Fault, Machine};
 /// puts in which it failed.
 #[inline(never)]
 pub fn run_sequential<S: Source, K: Sink, N: Sink>(
-    machine: &mut Machine,
+    machine: &mut RowMachine,
     input: &mut S,
     out: &mut K,
     notes: &mut N,

@@ -6,13 +6,13 @@ ghost use Rattle.alpha_trial.specs.Counted.{RunsTo, MakesTo};
 
 use alpha_imprecise::{CountingChooser, PcgChooser, Wild};
 use alpha_io::{MemorySink, NullSink, SureSource};
-use alpha_seq::Machine;
+use alpha_rows::RowMachine;
 use alpha_words::NoMemory;
 
 /// Runs a machine, in user mode, for so many steps at most, and answers how many it made. `NoMemory` where the output
 /// had no room.
 pub(crate) fn run_sequential(
-    machine: &mut Machine,
+    machine: &mut RowMachine,
     input: &mut SureSource,
     out: &mut MemorySink,
     units: u64,

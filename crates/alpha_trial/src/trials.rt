@@ -12,6 +12,7 @@ use crate::trial_image;
 use alpha_image::Image;
 use alpha_imprecise::{CountingChooser, PcgChooser, Wild};
 use alpha_io::{Failed, MemorySink, Sink, SureSource, write_whole};
+use alpha_rows::RowMachine;
 use alpha_seq::Machine;
 use alpha_verdict::judge_image;
 use alpha_words::{Completion, NoMemory};
@@ -111,10 +112,11 @@ fn push_sequential(
         ++ line (codes "sequential") image.words (run_tally (sequential_run units image))) }
     ensures image { IfOk result (λ given. given ≡ image) }
 {
-    let mut machine = Machine::new(alloc, image, Completion::Wrap)?;
+    let mut by_rows = RowMachine::new(alloc, Machine::new(alloc, image, Completion::Wrap)?);
     let mut input = SureSource::new(Vec::new(alloc));
     let mut out = MemorySink::new(alloc, ROOM, Vec::new(alloc))?;
-    let steps = run_sequential(&mut machine, &mut input, &mut out, units)?;
+    let steps = run_sequential(&mut by_rows, &mut input, &mut out, units)?;
+    let machine = by_rows.into_machine();
     let counts = Counts {
         overflows: machine.overflows,
         steps,
