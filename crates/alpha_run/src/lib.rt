@@ -17,8 +17,8 @@
 //! no step changes.
 //!
 //! `src/steps.rt` and `src/observer.rt` have the two traits, `src/seq.rt`, `src/by_rows.rt` and `src/imprecise.rt` the
-//! machines, `src/notes.rt` and `src/no_words.rt` the observer and the chooser, `src/observed.rt` one step with its lines,
-//! `src/runs.rt` the loop, and `src/seq_run.rt` and `src/imprecise_run.rt` the runs, `src/laws.rt` the laws.
+//! machines, `src/notes.rt` and `src/no_words.rt` the observer and the chooser, `src/observed.rt` one step with its
+//! lines, `src/runs.rt` the loop, and `src/seq_run.rt` and `src/imprecise_run.rt` the runs, `src/laws.rt` the laws.
 #![tactic(auto)]
 
 mod by_rows;

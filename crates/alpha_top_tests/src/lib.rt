@@ -1,5 +1,6 @@
 //! Tests of the crates at the top that no case of `alpha_cases/data` can be: of devices and lists that no call has, and
-//! of what a module, a journal and a run over rows give whoever stands on them. Those of the crates below are `alpha_tests`.
+//! of what a module, a journal and a run over rows give whoever stands on them. Those of the crates below are
+//! `alpha_tests`.
 #![tactic(auto)]
 
 #[cfg(test)]
