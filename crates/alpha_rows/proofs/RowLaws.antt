@@ -62,7 +62,7 @@ pub ExecutesRow-operate : (level : Level) (p : Parts) (regs : List ℕ) (mem : L
     → ExecutesRow p regs mem k (put regs s.c v) mem ((k + 1) % 2 ^ 64)
 ExecutesRow-operate level p regs mem k v s levels row is = by (meaning_of s.op) refl is
   where
-    by : (what : RowMeaning) → meaning_of s.op ≡ what → Some v ≡ value_in level what s regs
+    by : (meaning : RowMeaning) → meaning_of s.op ≡ meaning → Some v ≡ value_in level meaning s regs
         → ExecutesRow p regs mem k (put regs s.c v) mem ((k + 1) % 2 ^ 64)
     by (operates op literal) e h =
         let st : DenotesInsn p k s = row (λ l. let no : operates op literal ≡ leaves = sym e ∙ l in cc) in
