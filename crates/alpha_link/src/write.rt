@@ -37,7 +37,7 @@ impl Module<'_> {
     }
 }
 
-/// The one spelling of a module. Memory taken is that of these bytes.
+/// The one spelling of a module. Memory taken is that of these bytes; `NoMemory` where there is none.
 pub fn module_bytes(alloc: Global, module: &Module<'_>) -> Result<Vec<u8>, NoMemory>
     ensures value { IfOk result (λ bytes. bytes.items ≡ spelling «module».now) }
 {

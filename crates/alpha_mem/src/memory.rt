@@ -137,7 +137,12 @@ impl Memory {
         }
     }
 
-    /// What a store there would answer: `Align`, `Region` or neither.
+    /// What a store of this size at this address would answer, which changes nothing.
+    ///
+    /// # Errors
+    ///
+    /// `Align` where the address is no multiple of the size, else `Region` where a byte lies in no region that is
+    /// writable.
     pub fn writable(&self, addr: u64, size: Size) -> Result<(), MemFault>
         ensures fault { result_err result ≡ fault_of (shapes self.now) Store addr (size_of size) }
         ensures good { IsMemory self.now }

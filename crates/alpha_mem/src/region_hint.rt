@@ -15,8 +15,8 @@ use crate::region::Region;
 use crate::{MemFault, Memory, Size};
 
 impl Memory {
-    /// What [`Memory::load`] answers. `in_range` is the number of a region, as that of the last access: the region that
-    /// is looked at first. Which one it is changes no answer.
+    /// What [`Memory::load`] answers. `region_hint` is the number of a region, as that of the last access: the region
+    /// that is looked at first. Which one it is, or a number that no region has, changes no answer.
     #[inline(always)]
     pub fn load_with_hint(&self, region_hint: &mut usize, addr: u64, size: Size) -> Result<u64, MemFault>
         ensures fault { result_err result ≡ fault_of (shapes self.now) Load addr (size_of size) }
@@ -34,7 +34,7 @@ impl Memory {
         }
     }
 
-    /// What [`Memory::store`] does, with a region that is looked at first.
+    /// What [`Memory::store`] does and answers, with a region that is looked at first.
     #[inline(always)]
     pub fn store_with_hint(
         &mut self,

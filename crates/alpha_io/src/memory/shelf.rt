@@ -62,7 +62,7 @@ impl MemoryShelf {
         }
     }
 
-    /// Puts a file there, which is no call of the shelf. Refused, nothing changes.
+    /// Puts a file there, in place of one of this name, which is no call of the shelf. `NoMemory` changes nothing.
     pub fn add(&mut self, name: &str, bytes: &[u8]) -> Result<(), NoMemory>
         ensures stored { OnOk result (self.new ≡ shelf_with self.old name.now bytes.now) }
         ensures there { OnOk result (map.get self.new.files name.now ≡ Some bytes.now) }
