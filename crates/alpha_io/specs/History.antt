@@ -42,6 +42,20 @@ pub record IsReadWhole (old new : List Reply) (name bytes : List ℕ) : Type 0 w
   pub whole : concat pieces ≡ bytes
   pub calls : new ≡ old ++ pieces_from name 0 pieces ++ Piece name (length bytes) (Some []) ∷ []
 
+-- Between these two moments the shelf was asked for pieces of this file, from its start on and each behind the one
+-- before, and for nothing else. None was empty, so the file may go on behind them. The pieces are these bytes.
+pub record IsReadTo (old new : List Reply) (name bytes : List ℕ) : Type 0 where
+  pub pieces : List (List ℕ)
+  pub some : All (λ piece. piece ≢ []) pieces
+  pub whole : concat pieces ≡ bytes
+  pub calls : new ≡ old ++ pieces_from name 0 pieces
+
+-- So it is, and no more was asked for; or the piece behind them was, and that failed.
+abbrev pub IsReadInPart : List Reply → List Reply → List ℕ → Type 0
+IsReadInPart old new name =
+    (before : List Reply) × (bytes : List ℕ) × IsReadTo old before name bytes
+    × ((new ≡ before) ⊎ (new ≡ before ++ Piece name (length bytes) None ∷ []))
+
 -- the bytes that a sink took
 abbrev pub bytes_put : Reply → List ℕ
 bytes_put (Put bytes) = bytes

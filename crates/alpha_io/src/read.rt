@@ -1,7 +1,7 @@
-ghost use Rattle.std.specs.Prelude.{◌≡◌, ◌⊎◌, ◌^◌, ◌<◌, ◌≤◌, ◌++◌, ◌+◌, ◌∷◌, ℕ, List, [], Some, None, take, length};
-ghost use Rattle.std.specs.Prelude.{vec_len, IfOk, IfErr};
+ghost use Rattle.std.specs.Prelude.{◌≡◌, ◌⊎◌, ◌^◌, ◌<◌, ◌≤◌, ◌++◌, ◌+◌, ◌∷◌, ℕ, List, [], Some, None, take};
+ghost use Rattle.std.specs.Prelude.{length, vec_len, IfOk, IfErr};
 ghost use Rattle.std.specs.Io.{ReadsAtMost};
-ghost use Rattle.alpha_io.specs.History.{Piece, IsReadWhole};
+ghost use Rattle.alpha_io.specs.History.{Piece, IsReadWhole, IsReadInPart};
 ghost use Rattle.alpha_io.specs.Files.{Lacks, KeepsFiles, IfTold, IsPiece};
 ghost use Rattle.alpha_io.specs.ReadWhole.{ReadCause, PieceCause};
 ghost use Rattle.alpha_io.specs.declared.read.ReadFault.TheVariants.{Shelf, NoMemory};
@@ -60,6 +60,8 @@ pub fn read_whole<H: Shelf>(
         IsReadWhole (H.replies shelf.old) (H.replies shelf.new) name.now v.items) }
     ensures whole { (file : List ℕ) → IsReadWhole (H.replies shelf.old) (H.replies shelf.new) name.now file
         → IfErr result (λ fault. fault ≡ NoMemory) }
+    ensures part { IfErr result (λ fault. (fault ≡ NoMemory)
+        ⊎ IsReadInPart (H.replies shelf.old) (H.replies shelf.new) name.now) }
     ensures cause { ReadCause (H.files shelf.old) name.now limit
         (H.faults shelf.old) (H.faults shelf.new) result }
     ensures later { H.faults shelf.old ≤ H.faults shelf.new }

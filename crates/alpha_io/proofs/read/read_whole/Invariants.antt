@@ -1,6 +1,6 @@
 use Rattle.std.proofs.Common.{◌≡◌, ◌≤◌, ◌-◌, vec_len}
 use Rattle.alpha_io.specs.Files.{KeepsFiles}
-use Rattle.alpha_io.proofs.FilePieces.{IsReadTo}
+use Rattle.alpha_io.specs.History.{IsReadTo}
 use Rattle.alpha_io.proofs.FilePrefixes.{IsKnownPrefixRead}
 use Rattle.alpha_io.proofs.read.read_whole.Given as goal
 
