@@ -1,11 +1,11 @@
 -- A run of what was read has a run's end, but for a failure on the way.
-use Rattle.std.proofs.Common.{◌≡◌, ◌∙◌, ◌⊎◌, ℕ, true, false, List, Bool, None, Result, refl, sym, ap, subst, inl, inr}
-use Rattle.std.proofs.Common.{⊎_elim, ◌%◌, ◌^◌}
+use Rattle.std.proofs.Common.{◌≡◌, ◌∙◌, ◌⊎◌, ℕ, true, false, List, Bool, None, Result, sym, ap, subst, inl, inr}
+use Rattle.std.proofs.Common.{⊎_elim, ◌%◌, ◌^◌, ◌++◌, [], append-nil}
 use Rattle.alpha_io.specs.SinkChange.{SinkChange}
 use Rattle.alpha_io.specs.declared.Failed.{Failed}
 use Rattle.alpha_io.specs.ShelfChange.{ShelfChange}
 use Rattle.alpha_io.specs.History.{Reply, IsReadWhole}
-use Rattle.alpha_io.proofs.FilePieces.{one_file}
+use Rattle.alpha_io.proofs.FilePieces.{one_file, one_read}
 use Rattle.alpha_image.specs.Parts.{Parts, IsImage, image_spelling}
 use Rattle.alpha_image.specs.ImageFault.{first_fault}
 use Rattle.alpha_image.proofs.Spelled.{one_image, first_fault-image_spelling}
@@ -13,7 +13,7 @@ use Rattle.alpha_shadow.specs.Broken.{IsAccepted}
 use Rattle.alpha_request.specs.declared.request.ImageCommand.{ImageCommand}
 use Rattle.alpha_request.specs.declared.request.ImageCommand.TheVariants as images
 use Rattle.alpha_request.specs.Command.{Command, of_image, make, link, replay, record_run, run, imprecise, trial}
-use Rattle.alpha_request.specs.Origin.{Origin, seed, file}
+use Rattle.alpha_request.specs.Origin.{Origin, seed}
 use Rattle.alpha_request.specs.declared.options.RunOptions.{RunOptions}
 use Rattle.alpha_pal.specs.declared.fault.Fault.{Fault}
 use Rattle.alpha_seq.specs.Devices.{Drawn}
@@ -33,23 +33,37 @@ use Rattle.alpha_cmd.specs.Ends.{status_in}
 use Rattle.alpha_cmd.specs.Commands.Imprecise.{Plan}
 use Rattle.alpha_cmd.specs.PlanRead.{ReadsWords, IsPlanRead}
 use Rattle.alpha_cmd.specs.Ran.{FailsOnTheWay, end_on}
-use Rattle.alpha_cmd.specs.RunsAsked.{EndsAsRun, EndsOf, EndsPlan, EndsWherePlan, DecidesPlan}
+use Rattle.alpha_cmd.specs.RunsAsked.{EndsAsRun, EndsOf, EndsPlan, DecidesPlan}
 use Rattle.alpha_cmd.proofs.CutShort.{cut_status}
 
 -- ---- an image that was read
 
 -- bytes that spell an image are refused only for want of memory
+spelling_taken : (bytes : List ℕ) (image : Parts) (status : Status) → IsImage image → bytes ≡ image_spelling image
+    → Spells bytes (stops status (status_line status)) ⊎ ((status ≡ NoMemory) × (first_fault bytes ≡ None))
+    → OfStatus status ≡ OfStatus NoMemory
+spelling_taken bytes image status good same (inl ((fault, is, first), line)) =
+    let none : first_fault bytes ≡ None = ap first_fault same ∙ first_fault-image_spelling image good in
+    absurd (let e = sym none ∙ first in cc)
+spelling_taken bytes image status good same (inr h) = ap OfStatus h.0
+
 pub image_taken : (old new : List Reply) (name bytes : List ℕ) (image : Parts) (status : Status)
     → IsReadWhole old new name bytes
     → IsImage image → IsReadWhole old new name (image_spelling image)
     → Spells bytes (stops status (status_line status)) ⊎ ((status ≡ NoMemory) × (first_fault bytes ≡ None))
     → OfStatus status ≡ OfStatus NoMemory
-image_taken old new name bytes image status read good whole (inl ((fault, is, first), line)) =
-    let none : first_fault bytes ≡ None =
-    ap first_fault (one_file old new name bytes (image_spelling image) read whole)
-    ∙ first_fault-image_spelling image good in
-    absurd (let e = sym none ∙ first in cc)
-image_taken old new name bytes image status read good whole (inr h) = ap OfStatus h.0
+image_taken old new name bytes image status read good whole why =
+    spelling_taken bytes image status good (one_file old new name bytes (image_spelling image) read whole) why
+
+-- so are the first that were read
+pub first_taken : (old new middle rest : List Reply) (name bytes : List ℕ) (image : Parts) (status : Status)
+    → IsReadWhole old new name bytes
+    → IsImage image → IsReadWhole old middle name (image_spelling image) → new ≡ middle ++ rest
+    → Spells bytes (stops status (status_line status)) ⊎ ((status ≡ NoMemory) × (first_fault bytes ≡ None))
+    → OfStatus status ≡ OfStatus NoMemory
+first_taken old new middle rest name bytes image status read good whole behind why =
+    spelling_taken bytes image status good
+    (one_read old new middle name bytes (image_spelling image) [] rest read whole (append-nil new ∙ behind)).0 why
 
 -- what was read is this image, so where this one is accepted that one is
 pub read_accepted : (old new : List Reply) (name : List ℕ) (found image : Parts)
@@ -98,14 +112,6 @@ cut_fails End fault r says =
 
 -- ---- a row a command
 
--- by the choices
-pub imprecise_ends : (options : RunOptions) (choices : Origin) (force : Bool) (name : List ℕ) (status : Status)
-    (s : ShelfChange)
-    → ((n : ℕ) → choices ≡ seed n → EndsWherePlan force name status s)
-    → EndsAsRun (imprecise options choices force name) status s
-imprecise_ends options (seed n) force name status s h = h n refl
-imprecise_ends options (file list) force name status s h = tt
-
 -- memory ran out or a sink failed
 abbrev pub FailsAlways : Status → Type 0
 FailsAlways status = (status ≡ NoMemory) ⊎ (status ≡ SinkFault)
@@ -125,9 +131,7 @@ pub failed_ends : (command : Command) (status : Status) (s : ShelfChange) → Fa
     → EndsAsRun command status s
 failed_ends (of_image command name) status s fails = λ image good read. failed_of command status fails
 failed_ends (run options name) status s fails = λ image good has read. inr (on_the_way status fails)
-failed_ends (imprecise options (seed m) force name) status s fails =
-    λ image good accepted read. inr (on_the_way status fails)
-failed_ends (imprecise options (file list) force name) status s fails = tt
+failed_ends (imprecise options choices force name) status s fails = λ plan accepted read. inr (on_the_way status fails)
 failed_ends (make command name made) status s fails = tt
 failed_ends (link entry made names) status s fails = tt
 failed_ends (replay name journal) status s fails = tt

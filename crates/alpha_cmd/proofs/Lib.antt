@@ -25,6 +25,7 @@ pub mod CallPromises
 pub mod RunEffects
 pub mod EndStatuses
 pub mod EndsWhere
+pub mod PlansRead
 pub mod RunsOnReplies
 pub mod InputFreePrograms
 pub mod RecordedRuns

@@ -58,6 +58,7 @@ use Rattle.alpha_cmd.specs.ShowsDone.{ShowsDone, DecidesDone}
 use Rattle.alpha_cmd.proofs.Commands.Imprecise.{planned_image}
 use Rattle.alpha_cmd.proofs.EndStatuses.{drawn_end, run_end_class, sink_unended}
 use Rattle.alpha_cmd.proofs.EndsWhere.{seeded_read}
+use Rattle.alpha_cmd.proofs.PlansRead.{seed_plan, seed_plan-read}
 use Rattle.alpha_cmd.proofs.RunEffects.{IsStarted, says_end}
 use Rattle.alpha_cmd.proofs.StageLaws.{IfOk-more}
 
@@ -335,7 +336,8 @@ ran_on words status c h name plain = (
         λ ends. let s = r.shows (run_end_class status ends) in
         let read = seeded_read c.shelf.past c.shelf.history (seed 0) name s.plan 0 refl s.is in
         record { image = s.plan.image; good = read.0; read = read.1; told = s.told; has = s.has };
-    ends = λ image good accepted read. r.ends image good (λ judges. accepted) read;
+    ends = λ image good accepted read. r.ends (seed_plan image 0) (λ judges. accepted)
+        (seed_plan-read c.shelf.past c.shelf.history name image 0 good read);
   },
 )
 

@@ -11,7 +11,7 @@ use Rattle.alpha_shadow.specs.Broken.{IsAccepted}
 use Rattle.alpha_request.specs.declared.request.ImageCommand.{ImageCommand}
 use Rattle.alpha_request.specs.declared.request.ImageCommand.TheVariants as images
 use Rattle.alpha_request.specs.Command.{Command, of_image, replay, record_run, run, imprecise}
-use Rattle.alpha_request.specs.Origin.{seed}
+use Rattle.alpha_request.specs.Origin.{Origin}
 use Rattle.alpha_request.specs.declared.options.RunOptions.{RunOptions}
 use Rattle.alpha_seq.specs.Run.{output, notes}
 use Rattle.alpha_seq.specs.Devices.{Drawn}
@@ -27,7 +27,7 @@ use Rattle.alpha_cmd.specs.Drawn.{but_drawn}
 use Rattle.alpha_cmd.specs.Ends.{status_in}
 use Rattle.alpha_cmd.specs.ImpreciseRan.{ShowsImprecise, DecidesImprecise}
 use Rattle.alpha_cmd.specs.OfImage.Debug as sessions
-use Rattle.alpha_cmd.specs.PlanRead.{ReadsPlan}
+use Rattle.alpha_cmd.specs.PlanRead.{IsPlanRead, ReadsPlan}
 use Rattle.alpha_cmd.specs.Ran.{RunOnReplies, ShowsRun, IsRunEnd, FailsOnTheWay, EndsWhere, end_on}
 use Rattle.alpha_cmd.specs.RecordRan.{ShowsRecord, DecidesRecord, ReadsAndKeeps}
 use Rattle.alpha_cmd.specs.ReplayRan.{ReplaysFiles}
@@ -73,12 +73,12 @@ abbrev pub EndsPlan : Bool → Status → Type 0
 EndsPlan false status = IsRunEnd status
 EndsPlan true status = IsEndStatus true status
 
--- Where the bytes that the shelf's calls gave of this file spell an image that may be run, the status is that of an
--- end, but where memory ran out or the input or a sink failed.
-abbrev pub EndsWherePlan : Bool → List ℕ → Status → ShelfChange → Type 0
-EndsWherePlan force file status s =
-    (image : Parts) → IsImage image → (force ≡ false → IsAccepted image.words)
-    → IsReadWhole s.past s.history file (image_spelling image) → EndsPlan force status ⊎ FailsOnTheWay status
+-- Where the bytes that the shelf's calls gave of this file spell an image that may be run, and a file of choices was
+-- given then too, the status is that of an end, but where memory ran out or the input or a sink failed.
+abbrev pub EndsWherePlan : Bool → Origin → List ℕ → Status → ShelfChange → Type 0
+EndsWherePlan force choices file status s =
+    (plan : Plan) → (force ≡ false → IsAccepted plan.image.words) → IsPlanRead s.past s.history choices file plan
+    → EndsPlan force status ⊎ FailsOnTheWay status
 
 -- how it ends where the bytes spell an image
 abbrev pub EndsOf : ImageCommand → Status → Type 0
@@ -86,13 +86,12 @@ EndsOf images.Check status = Unit {0}
 EndsOf images.Dis status = IsDoneOrFails status
 EndsOf images.Debug status = sessions.IsEndStatus status ⊎ FailsOnTheWay status
 
--- A row a command: the imprecise machine runs an image that is accepted, and each where the verdict is passed over. Of
--- one that reads its choices from a file nothing is said.
+-- A row a command: the imprecise machine runs an image that is accepted, and each where the verdict is passed over.
 abbrev pub EndsAsRun : Command → Status → ShelfChange → Type 0
 EndsAsRun (of_image what file) status s =
     (image : Parts) → IsImage image → IsReadWhole s.past s.history file (image_spelling image) → EndsOf what status
 EndsAsRun (run options file) status s = EndsWhere (λ image. Unit {0}) file status s
-EndsAsRun (imprecise options (seed n) force file) status s = EndsWherePlan force file status s
+EndsAsRun (imprecise options choices force file) status s = EndsWherePlan force choices file status s
 EndsAsRun _ status s = Unit {0}
 
 -- The first says what is shown where it has ended, and the second when it has.

@@ -1,8 +1,9 @@
 //! The words by which the imprecise machine chooses.
 
-ghost use Rattle.std.specs.Prelude.{◌≡◌, ℕ, Some, None, Err, IfOk, OnErr};
+ghost use Rattle.std.specs.Prelude.{◌≡◌, ◌⊎◌, ℕ, List, Some, None, Err, IfOk, IfErr, OnErr};
+ghost use Rattle.alpha_io.specs.History.{IsReadInPart};
 ghost use Rattle.alpha_io.specs.ShelfChange.{shelf_change};
-ghost use Rattle.alpha_request.specs.Origin as choices;
+ghost use Rattle.alpha_request.specs.Origin as origins;
 ghost use Rattle.alpha_request.specs.Origin.{seed};
 ghost use Rattle.alpha_request.specs.Options.{origin_of};
 ghost use Rattle.alpha_cmd.specs.Chooser.{ahead_in};
@@ -55,6 +56,9 @@ pub(crate) fn chooser_of<H: Shelf>(
         (H.replies shelf.old) (H.replies shelf.new) (ahead_in chooser)) }
     ensures seeded { (n : ℕ) → origin_of choices.now ≡ seed n → shelf.new ≡ shelf.old }
     ensures sure { (n : ℕ) → origin_of choices.now ≡ seed n → OnErr result ⊥ }
+    ensures part { (name : List ℕ) → origin_of choices.now ≡ origins.file name
+        → IfErr result (λ stop. (stop ≡ Stop.OfStatus Status.NoMemory)
+        ⊎ IsReadInPart (H.replies shelf.old) (H.replies shelf.new) name) }
 {
     match *choices {
         Choices::Seed(seed) => Ok(Choosing::Seeded(PcgChooser::new(seed))),
@@ -64,9 +68,11 @@ pub(crate) fn chooser_of<H: Shelf>(
 
 // The words that a file writes.
 fn read_choices<H: Shelf>(alloc: Global, name: &str, shelf: &mut H) -> Result<Choosing, Stop>
-    ensures read { IfOk result (λ chooser. ReadsWords (choices.file name.now)
+    ensures read { IfOk result (λ chooser. ReadsWords (origins.file name.now)
         (H.replies shelf.old) (H.replies shelf.new) (ahead_in chooser)) }
-    ensures stage { Stage (ChoicesOf (H.files shelf.old) (choices.file name.now))
+    ensures part { IfErr result (λ stop. (stop ≡ Stop.OfStatus Status.NoMemory)
+        ⊎ IsReadInPart (H.replies shelf.old) (H.replies shelf.new) name.now) }
+    ensures stage { Stage (ChoicesOf (H.files shelf.old) (origins.file name.now))
         (λ chooser. ahead_in chooser) result (shelf_change H.Shelf shelf.old shelf.new) }
 {
     let bytes = read_file(alloc, shelf, name, CHOICES_LIMIT)?;

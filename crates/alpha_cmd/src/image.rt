@@ -1,7 +1,7 @@
 //! The stages that lead to a file and to its image.
 
-ghost use Rattle.std.specs.Prelude.{◌≡◌, ◌⊎◌, ◌^◌, ◌<◌, ℕ, List, IfOk, IfErr, OnOk, OnErr, None};
-ghost use Rattle.alpha_io.specs.History.{IsReadWhole};
+ghost use Rattle.std.specs.Prelude.{◌≡◌, ◌⊎◌, ◌^◌, ◌<◌, ◌++◌, ℕ, List, IfOk, IfErr, OnOk, OnErr, None};
+ghost use Rattle.alpha_io.specs.History.{Reply, IsReadInPart, IsReadWhole};
 ghost use Rattle.alpha_io.specs.ShelfChange.{shelf_change};
 ghost use Rattle.alpha_image.specs.ImageFault.{first_fault};
 ghost use Rattle.alpha_image.specs.Parts.{Parts, IsImage, image_spelling};
@@ -50,6 +50,8 @@ pub(crate) fn read_file<H: Shelf>(
         IsReadWhole (H.replies shelf.old) (H.replies shelf.new) name.now bytes.items) }
     ensures whole { (file : List ℕ) → IsReadWhole (H.replies shelf.old) (H.replies shelf.new) name.now file
         → IfErr result (λ stop. stop ≡ Stop.OfStatus Status.NoMemory) }
+    ensures part { IfErr result (λ stop. (stop ≡ Stop.OfStatus Status.NoMemory)
+        ⊎ IsReadInPart (H.replies shelf.old) (H.replies shelf.new) name.now) }
     ensures stage { Stage (Reads (H.files shelf.old) name.now limit) (λ bytes. bytes.items) result
         (shelf_change H.Shelf shelf.old shelf.new) }
 {
@@ -79,6 +81,9 @@ pub(crate) fn load<H: Shelf>(alloc: Global, shelf: &mut H, name: &str) -> Result
     ensures whole { (image : Parts) → IsImage image
         → IsReadWhole (H.replies shelf.old) (H.replies shelf.new) name.now (image_spelling image)
         → IfErr result (λ stop. stop ≡ Stop.OfStatus Status.NoMemory) }
+    ensures first { (image : Parts) (middle rest : List Reply) → IsImage image
+        → IsReadWhole (H.replies shelf.old) middle name.now (image_spelling image)
+        → H.replies shelf.new ≡ middle ++ rest → IfErr result (λ stop. stop ≡ Stop.OfStatus Status.NoMemory) }
     ensures stage { Stage (ImageOf (H.files shelf.old) name.now) (λ image. image) result
         (shelf_change H.Shelf shelf.old shelf.new) }
 {

@@ -1,13 +1,10 @@
 //! `run --imprecise FILE`: a run of the image's program by the imprecise machine.
 
 ghost use Rattle.std.specs.Prelude.{◌≡◌, ◌⊎◌, ℕ, Bool, false, IfOk, IfErr, OnErr};
-ghost use Rattle.alpha_io.specs.History.{IsReadWhole};
 ghost use Rattle.alpha_io.specs.ShelfChange.{shelf_change};
 ghost use Rattle.alpha_io.specs.SinkChange.{sink_change};
-ghost use Rattle.alpha_image.specs.Parts.{Parts, IsImage, image_spelling};
 ghost use Rattle.alpha_shadow.specs.Broken.{IsAccepted};
 ghost use Rattle.alpha_seq.specs.Devices.{drawn};
-ghost use Rattle.alpha_request.specs.Origin.{seed};
 ghost use Rattle.alpha_request.specs.Options.{origin_of};
 ghost use Rattle.alpha_cmd.specs.Chooser.{ahead_in};
 ghost use Rattle.alpha_cmd.specs.Commands.Imprecise as wilds;
@@ -80,9 +77,8 @@ pub(crate) fn imprecise<H: Shelf, S: Source, K: Sink, N: Sink>(
         (drawn S.Source devices.old.input devices.new.input)
         (sink_change K.Sink devices.old.out devices.new.out)
         (sink_change N.Sink devices.old.notes devices.new.notes))) }
-    ensures ends { (n : ℕ) → origin_of asked.entry.choices ≡ seed n
-        → EndsWherePlan asked.entry.force asked.entry.file.now (status_in result)
-        (shelf_change H.Shelf devices.old.shelf devices.new.shelf) }
+    ensures ends { EndsWherePlan asked.entry.force (origin_of asked.entry.choices) asked.entry.file.now
+        (status_in result) (shelf_change H.Shelf devices.old.shelf devices.new.shelf) }
 {
     match prepare(alloc, &asked, &mut devices.shelf) {
         Ok(mut begun) => run_from_start(&mut begun, asked.options, devices),
@@ -104,9 +100,8 @@ pub(crate) fn prepare<H: Shelf>(
     ensures begun { IfOk result (IsBegun asked.now.options) }
     ensures read { IfOk result (λ begun. IsPlanRead (H.replies shelf.old) (H.replies shelf.new)
         (origin_of asked.now.choices) asked.now.file.now (plan_in begun)) }
-    ensures whole { (n : ℕ) (image : Parts) → origin_of asked.now.choices ≡ seed n → IsImage image
-        → (asked.now.force ≡ false → IsAccepted image.words)
-        → IsReadWhole (H.replies shelf.old) (H.replies shelf.new) asked.now.file.now (image_spelling image)
+    ensures whole { (plan : wilds.Plan) → (asked.now.force ≡ false → IsAccepted plan.image.words)
+        → IsPlanRead (H.replies shelf.old) (H.replies shelf.new) (origin_of asked.now.choices) asked.now.file.now plan
         → IfErr result (λ stop. stop ≡ Stop.OfStatus Status.NoMemory) }
 {
     let plan = read_plan(alloc, asked.file, &asked.choices, shelf)?;
@@ -125,8 +120,8 @@ fn read_plan<H: Shelf>(
         (λ plan. plan_by plan.image (ahead_in plan.chooser)) result (shelf_change H.Shelf shelf.old shelf.new) }
     ensures read { IfOk result (λ plan. IsPlanRead (H.replies shelf.old) (H.replies shelf.new)
         (origin_of choices.now) file.now (plan_by plan.image (ahead_in plan.chooser))) }
-    ensures whole { (n : ℕ) (image : Parts) → origin_of choices.now ≡ seed n → IsImage image
-        → IsReadWhole (H.replies shelf.old) (H.replies shelf.new) file.now (image_spelling image)
+    ensures whole { (plan : wilds.Plan)
+        → IsPlanRead (H.replies shelf.old) (H.replies shelf.new) (origin_of choices.now) file.now plan
         → IfErr result (λ stop. stop ≡ Stop.OfStatus Status.NoMemory) }
 {
     let image = load(alloc, shelf, file)?;

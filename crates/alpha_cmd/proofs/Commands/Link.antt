@@ -248,6 +248,16 @@ files_next old middle names all after i name file cut kept read is rest =
     (FilesOf old (map (λ n. n.now) names))
     (map (λ f. f.items) all) (map (λ f. f.items) after) i name file.items cut found more rest
 
+pub files_stop : (old middle : Files) (names : List (Bor (List ℕ))) (all : List (Vec ℕ Global)) (i : ℕ)
+    (name : Bor (List ℕ)) (s : Status) (line : List ℕ)
+    → drop i names ≡ name ∷ drop (suc i) names → KeepsFiles old middle
+    → Reads middle name.now module_limit (stops s line) → FilesLeft old names all i
+    → FilesOf old (map (λ name. name.now) names) (stops s line)
+files_stop old middle names all i name s line cut kept read rest =
+    rest_stops (λ before name. Reads old name module_limit) (λ (n : Bor (List ℕ)). n.now) names
+    (FilesOf old (map (λ n. n.now) names)) (map (λ f. f.items) all) i name s line cut
+    (subst (λ f. Reads f name.now module_limit (stops s line)) (kept_same old middle kept) read) rest
+
 -- the modules of the files from a place on, behind those that were read
 abbrev pub ModulesLeft : List (Vec ℕ Global) → List ModuleParts → ℕ → Type 0
 ModulesLeft files all i =

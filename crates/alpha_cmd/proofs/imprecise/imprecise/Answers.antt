@@ -56,12 +56,12 @@ returns-in-Err-clause-ran g c = λ ends.
     c.of_stop.ensures c.in-Err.ensures.stage.refused ends)
 
 pub returns-in-Ok-clause-ends : goal.returns-in-Ok-clause-ends
-returns-in-Ok-clause-ends g c = λ n seeds image good accepted read.
+returns-in-Ok-clause-ends g c = λ plan accepted read.
     let a = c.args.asked in
     c.run_from_start.ensures.ends a.force (planned_good a.force (origin_of a.choices) a.file.now
     (g.H.Shelf.files c.args.devices.now.shelf) (plan_in c.in-Ok.begun) c.in-Ok.ensures.stage.ok)
 
 pub returns-in-Err-clause-ends : goal.returns-in-Err-clause-ends
-returns-in-Err-clause-ends g c = λ n seeds image good accepted read.
+returns-in-Err-clause-ends g c = λ plan accepted read.
     memory_fails _ c.in-Err.stop c.of_stop.result c.of_stop.ensures
-    (c.in-Err.ensures.whole n image seeds good accepted read)
+    (c.in-Err.ensures.whole plan accepted read)

@@ -1,6 +1,8 @@
 use Rattle.std.proofs.Common.{◌≡◌, subst, sym, inl, inr, ⊎_elim}
 use Rattle.std.proofs.lemmas.Result.{err_from_is_err_and}
 use Rattle.alpha_io.specs.ShelfChange.{shelf_change}
+use Rattle.alpha_image.specs.Parts.{Parts}
+use Rattle.alpha_shadow.specs.Broken.{IsAccepted}
 use Rattle.alpha_request.specs.Options.{origin_of}
 use Rattle.alpha_cmd.specs.Chooser.{ahead_in}
 use Rattle.alpha_cmd.specs.Commands.Imprecise.{Plan, PlanOf, Planned, Passes, plan_by, plan_in}
@@ -12,7 +14,7 @@ use Rattle.alpha_cmd.specs.declared.stop.Stop.TheVariants.{OfStatus}
 use Rattle.alpha_cmd.proofs.StageEffects.{stage_made}
 use Rattle.alpha_cmd.proofs.Lawful.{Then-stops}
 use Rattle.alpha_cmd.proofs.StageLaws.{IfOk-more}
-use Rattle.alpha_cmd.proofs.EndsWhere.{read_accepted, seeded_read}
+use Rattle.alpha_cmd.proofs.PlansRead.{same_image}
 use Rattle.alpha_cmd.proofs.imprecise.prepare.Goals as goal
 
 pub returns-in_err-plan-clause-stage : goal.returns-in_err-plan-clause-stage
@@ -56,22 +58,22 @@ returns-clause-read g c =
     c.in_ok-plan.ensures.read) c.begin.ensures.ok
 
 pub returns-in_err-plan-clause-whole : goal.returns-in_err-plan-clause-whole
-returns-in_err-plan-clause-whole g c = λ n image seeds good accepted read.
+returns-in_err-plan-clause-whole g c = λ plan accepted read.
     let p = err_from_is_err_and c.from_residual.result c.from_residual.ensures.1 in
-    rw (p.1, p.2) (c.in_err-plan.ensures.whole n image seeds good read)
+    rw (p.1, p.2) (c.in_err-plan.ensures.whole plan read)
 
 pub returns-in_err-require_pass-clause-whole : goal.returns-in_err-require_pass-clause-whole
-returns-in_err-require_pass-clause-whole g c = λ n image seeds good accepted read.
+returns-in_err-require_pass-clause-whole g c = λ plan accepted read.
     let a = c.args.asked.now in
     let old = g.H.Shelf.replies c.args.shelf.now in
     let new = g.H.Shelf.replies c.read_plan.new.shelf in
-    let plan = plan_by c.in_ok-plan.plan.image (ahead_in c.in_ok-plan.plan.chooser) in
-    absurd (c.in_err-require_pass.ensures.whole (λ judges. read_accepted old new a.file.now plan.image image
-    (seeded_read old new (origin_of a.choices) a.file.now plan n seeds c.in_ok-plan.ensures.read)
-    good read (accepted judges)))
+    let found = plan_by c.in_ok-plan.plan.image (ahead_in c.in_ok-plan.plan.chooser) in
+    absurd (c.in_err-require_pass.ensures.whole (λ judges. subst (λ (p : Parts). IsAccepted p.words)
+    (same_image old new (origin_of a.choices) a.file.now found plan c.in_ok-plan.ensures.read read)
+    (accepted judges)))
 
 pub returns-clause-whole : goal.returns-clause-whole
-returns-clause-whole g c = λ n image seeds good accepted read. c.begin.ensures.refused
+returns-clause-whole g c = λ plan accepted read. c.begin.ensures.refused
 
 pub returns-in_err-require_pass-clause-stage : goal.returns-in_err-require_pass-clause-stage
 returns-in_err-require_pass-clause-stage g c =

@@ -6,6 +6,7 @@ use Rattle.alpha_cmd.specs.Commands.Imprecise.{plan_by}
 use Rattle.alpha_cmd.specs.Image.{ImageOf}
 use Rattle.alpha_cmd.specs.Outcome.{Gives}
 use Rattle.alpha_cmd.proofs.EffectsAfterRead.{second_stops}
+use Rattle.alpha_cmd.proofs.PlansRead.{ReadsWords-behind, words_taken}
 use Rattle.alpha_cmd.proofs.imprecise.read_plan.Goals as goal
 
 pub returns-in_err-chooser-clause-stage : goal.returns-in_err-chooser-clause-stage
@@ -27,9 +28,18 @@ returns-clause-read g c = record {
 }
 
 pub returns-in_err-image-clause-whole : goal.returns-in_err-image-clause-whole
-returns-in_err-image-clause-whole g c = λ n image seeds good read.
+returns-in_err-image-clause-whole g c = λ plan read.
     let p = err_from_is_err_and c.from_residual.result c.from_residual.ensures.1 in
-    rw (p.1, p.2) (c.in_err-image.ensures.whole image good read)
+    let (rest, behind) =
+    ReadsWords-behind read.middle (g.H.Shelf.replies c.load.new.shelf) (origin_of c.args.choices.now) plan.ahead
+    read.words in
+    rw (p.1, p.2) (c.in_err-image.ensures.first plan.image read.middle rest read.good read.read behind)
 
 pub returns-in_err-chooser-clause-whole : goal.returns-in_err-chooser-clause-whole
-returns-in_err-chooser-clause-whole g c = λ n image seeds good read. absurd (c.in_err-chooser.ensures.sure n seeds)
+returns-in_err-chooser-clause-whole g c = λ plan read.
+    let p = err_from_is_err_and c.from_residual-in_err-chooser.result c.from_residual-in_err-chooser.ensures.1 in
+    rw (p.1, p.2)
+    (words_taken (g.H.Shelf.replies c.args.shelf.now) (g.H.Shelf.replies c.load.new.shelf)
+    (g.H.Shelf.replies c.chooser_of.new.shelf) (origin_of c.args.choices.now) c.args.file.now c.in_ok-image.image plan
+    c.in_err-chooser.field-0.0 c.in_ok-image.ensures.read.1 read c.in_err-chooser.ensures.sure
+    c.in_err-chooser.ensures.part)

@@ -1,12 +1,9 @@
 use Rattle.std.proofs.Common.{◌≡◌, ◌∙◌, sym, ap}
 use Rattle.alpha_io.specs.ShelfChange.{shelf_change}
-use Rattle.alpha_request.specs.Options.{origin_of}
 use Rattle.alpha_request.specs.Command.{of_image, debug}
 use Rattle.alpha_request.specs.CommandOf.{command_of}
-use Rattle.alpha_cmd.specs.Ends.{status_in}
 use Rattle.alpha_cmd.proofs.OfImage.{of_image_replied}
 use Rattle.alpha_cmd.proofs.RunsOnReplies.{other_asked}
-use Rattle.alpha_cmd.proofs.EndsWhere.{imprecise_ends}
 use Rattle.alpha_cmd.proofs.top.perform.Goals as goal
 
 pub returns-in-OfImage-clause-script : goal.returns-in-OfImage-clause-script
@@ -66,8 +63,7 @@ returns-in-Run-clause-ends g c = rw c.in-Run.is c.run.ensures.ends
 pub returns-in-RunImprecise-clause-ends : goal.returns-in-RunImprecise-clause-ends
 returns-in-RunImprecise-clause-ends g c =
     let i = c.in-RunImprecise in
-    rw i.is (imprecise_ends i.options (origin_of i.choices) i.force i.file.now (status_in c.imprecise.result)
-    (shelf_change g.H.Shelf c.args.devices.now.shelf c.imprecise.new.devices.shelf) c.imprecise.ensures.ends)
+    rw i.is c.imprecise.ensures.ends
 
 pub returns-in-OfImage-clause-ends : goal.returns-in-OfImage-clause-ends
 returns-in-OfImage-clause-ends g c = rw c.in-OfImage.is c.of_image.ensures.ends
