@@ -43,26 +43,26 @@ use Rattle.alpha_asm.specs.Pass.{place_of, location_at, fields_read, Filled, Sou
 use Rattle.alpha_asm.proofs.Levels.{insns-after}
 use Rattle.alpha_asm.proofs.IsWhole.{code_after-code_in, bytes_whole}
 
-pub made_so : (is : List LineStmt) (p : Pass) → PassSimulates is p
+pub assembled_program-made_at : (is : List LineStmt) (p : Pass) → PassSimulates is p
     → assembled_program is ≡ made_at is (option_map entry_view p.fields.entry)
 unfolding assembled_program
-made_so is p s = ap (made_at is) (sym (ap (λ f. f.entry) s.fields))
+assembled_program-made_at is p s = ap (made_at is) (sym (ap (λ f. f.entry) s.fields))
 
 pub IfOk-map : {A E : Type 0} {P Q : A → Type 0} (r : Result A E) → IfOk r P → ((x : A) → P x → Q x) → IfOk r Q
 IfOk-map (Ok x) p f = f x p
 IfOk-map (Err e) p f = tt
 
 -- with all addresses put in, code and bytes are those of the items
-pub code_made : (k : Known) (is : List LineStmt)
+pub code_after-fixes : (k : Known) (is : List LineStmt)
     → code_after k (fixes 0 (layout is)) (flat_map (λ x. raw_insns x.item.statement) (layout is))
     ≡ flat_map (code_in k) (layout is)
 unfolding layout
-code_made k is = code_after-code_in k 0 start 1 is [] refl
+code_after-fixes k is = code_after-code_in k 0 start 1 is [] refl
 
-pub bytes_made : (k : Known) (is : List LineStmt)
+pub bytes_after-fixes : (k : Known) (is : List LineStmt)
     → bytes_after k (fixes 0 (layout is)) (flat_map raw_bytes (layout is)) ≡ flat_map (bytes_in k) (layout is)
 unfolding layout
-bytes_made k is = bytes_whole k 0 start 1 is [] refl
+bytes_after-fixes k is = bytes_whole k 0 start 1 is [] refl
 
 -- the addresses are those that the items name
 names-fix : (ns : List Name) → map (λ f. f.name) (map (fix 0) ns) ≡ ns
@@ -126,20 +126,20 @@ known-assembled_program is p s =
     ∙ ap (λ f. record { code_base = code_base_of (fields (layout is)); segments = segments_of is; locations = f })
     (fun_ext s.labels))
 
-pub code_so : (is : List LineStmt) (p : Pass) (k : Known) → PassSimulates is p → k ≡ known is
+pub code_after-patches : (is : List LineStmt) (p : Pass) (k : Known) → PassSimulates is p → k ≡ known is
     → code_after k (map fix_of p.output.patches.items) p.output.code.items ≡ flat_map (code_in (known is)) (layout is)
-code_so is p k s e =
+code_after-patches is p k s e =
     ap (λ q. code_after q (map fix_of p.output.patches.items) p.output.code.items) e
     ∙ (ap (λ f. code_after (known is) f p.output.code.items) s.patches
-    ∙ (ap (code_after (known is) (fixes 0 (layout is))) s.code ∙ code_made (known is) is))
+    ∙ (ap (code_after (known is) (fixes 0 (layout is))) s.code ∙ code_after-fixes (known is) is))
 
-pub bytes_so : (is : List LineStmt) (p : Pass) (k : Known) → PassSimulates is p → k ≡ known is
+pub bytes_after-patches : (is : List LineStmt) (p : Pass) (k : Known) → PassSimulates is p → k ≡ known is
     → bytes_after k (map fix_of p.output.patches.items) p.output.bytes.items
     ≡ flat_map (bytes_in (known is)) (layout is)
-bytes_so is p k s e =
+bytes_after-patches is p k s e =
     ap (λ q. bytes_after q (map fix_of p.output.patches.items) p.output.bytes.items) e
     ∙ (ap (λ f. bytes_after (known is) f p.output.bytes.items) s.patches
-    ∙ (ap (bytes_after (known is) (fixes 0 (layout is))) s.bytes ∙ bytes_made (known is) is))
+    ∙ (ap (bytes_after (known is) (fixes 0 (layout is))) s.bytes ∙ bytes_after-fixes (known is) is))
 
 -- putting addresses in leaves the number of data bytes
 pub length-overlaid : (at n : ℕ) (bytes : List ℕ) → length (overlaid at n bytes) ≡ length bytes
@@ -185,19 +185,20 @@ own-filled None section (s ∷ rest) last base size (e, f) = cc
 own-filled (Some n) section [] last base size (c, z, g) = (g, λ n. cc)
 own-filled (Some n) section (s ∷ rest) last base size f = (sym f, λ n. cc)
 
-pub known-so : (is : List LineStmt) (p : Pass) (base code_base : ℕ) (segments : List Segment) → PassSimulates is p
+pub known_addresses-so : (is : List LineStmt) (p : Pass) (base code_base : ℕ) (segments : List Segment)
+    → PassSimulates is p
     → base ≡ data_base_of (fields_read p.fields) → code_base ≡ code_base_of (fields_read p.fields)
     → segments ≡ based base (p.place.earlier.items ++ p.place.last ∷ []) → known_with code_base segments p ≡ known is
-known-so is p base code_base segments s b c e =
+known_addresses-so is p base code_base segments s b c e =
     ap (λ n. known_with n segments p) c
     ∙ (ap (λ l. known_with (code_base_of (fields_read p.fields)) l p)
     (e ∙ ap (λ n. based n (p.place.earlier.items ++ p.place.last ∷ [])) b)
     ∙ known-assembled_program is p s)
 
-pub undefined-so : (is : List LineStmt) (p : Pass) (k : Known) → PassSimulates is p → k ≡ known is
+pub undefined_line-first : (is : List LineStmt) (p : Pass) (k : Known) → PassSimulates is p → k ≡ known is
     → first (undefined_line (known is)) (flat_map names_in (layout is))
     ≡ first (undefined_line k) (names_of p.output.patches.items)
-undefined-so is p k s e =
+undefined_line-first is p k s e =
     sym (ap (λ q. first (undefined_line q) (names_of p.output.patches.items)) e
     ∙ ap (first (undefined_line (known is))) (names-assembled_program is p s))
 
@@ -259,11 +260,11 @@ filled_within (s ∷ rest) =
     (arith, filled_within rest, sum_by-cons (λ (x : Segment). x.filled) s rest, sum_by-cons size_of_segment s rest)
 
 -- where no field is bad
-pub few_bytes : (p : Pass) (base : ℕ) (f : Finished) → Sound (place_of p) (length p.output.bytes.items)
+pub FieldsFit-data_bytes_bound : (p : Pass) (base : ℕ) (f : Finished) → Sound (place_of p) (length p.output.bytes.items)
     → f.level ≡ p.place.level
     → f.segments.items ≡ based base (p.place.earlier.items ++ p.place.last ∷ []) → FieldsFit (finished_numbers f)
     → length p.output.bytes.items ≤ 16777216
-few_bytes p base f sound level segments fit =
+FieldsFit-data_bytes_bound p base f sound level segments fit =
     let (filled, single) = own-filled p.place.level p.place.section p.place.earlier.items p.place.last base
     (length p.output.bytes.items) sound.filled in
     let own : own_segments f.level f.segments.items
@@ -289,7 +290,7 @@ PassSimulates-Finishes is p entry k base f s e defined unmet code bytes level fi
     ap length code
     ∙ (length-code_after k (map fix_of p.output.patches.items) p.output.code.items ∙ ap (λ q. q.words) s.place) in
     record {
-      defined = undefined-so is p k s e ∙ defined;
+      defined = undefined_line-first is p k s e ∙ defined;
       level = level ∙ ap (λ q. q.level) s.place;
       numbers =
           ap (λ g. level_numbers g (length f.code.items) (own_segments f.level f.segments.items)) fields
@@ -300,8 +301,9 @@ PassSimulates-Finishes is p entry k base f s e defined unmet code bytes level fi
           (length f.code.items) (own_segments p.place.level l))
           segments
           ∙ numbers-so is p entry k (length f.code.items) s e size));
-      code = code ∙ code_so is p k s e;
-      bytes = λ fit. bytes (few_bytes p base f s.sound level stand fit) ∙ bytes_so is p k s e;
+      code = code ∙ code_after-patches is p k s e;
+      bytes =
+          λ fit. bytes (FieldsFit-data_bytes_bound p base f s.sound level stand fit) ∙ bytes_after-patches is p k s e;
       out_of_range = unmet ∙ unmet-so is p k s e;
     }
 
@@ -317,7 +319,7 @@ Sound-IsWhole p entry k base f sound leveled code bytes level fields segments =
     (length p.output.bytes.items) sound.filled in
     record {
       filled =
-          λ fit. ap length (bytes (few_bytes p base f sound level segments fit))
+          λ fit. ap length (bytes (FieldsFit-data_bytes_bound p base f sound level segments fit))
           ∙ (length-bytes_after k (map fix_of p.output.patches.items) p.output.bytes.items ∙ (filled
           ∙ sym (ap (λ l. filled_size (own_segments l f.segments.items)) level
           ∙ ap (λ l. filled_size (own_segments p.place.level l)) segments)));
@@ -329,9 +331,9 @@ Sound-IsWhole p entry k base f sound leveled code bytes level fields segments =
     }
 
 -- the program, or why it has no image
-pub finished_so : (is : List LineStmt) (entry : Entry) (f : Finished) → Finishes is entry f
+pub made_at-finished_result : (is : List LineStmt) (entry : Entry) (f : Finished) → Finishes is entry f
     → made_at is (Some entry) ≡ finished_result f
-finished_so is entry f h =
+made_at-finished_result is entry f h =
     ap (λ o. unless (option_map Undefined o) (unless (option_map ImageField (least_bad_field (numbers_of is entry)))
     (unless (option_map Reach (first (out_of_range_line (known is)) (flat_map names_in (layout is))))
     (Ok (program is entry)))))
@@ -373,15 +375,15 @@ finished_so is entry f h =
         good)))
 
 -- the instructions of words are those that the words stand for
-pub insns_of_words : (words : List ℕ) (insns : List Form) → map decoded words ≡ map Some insns
+pub filter_map-decoded : (words : List ℕ) (insns : List Form) → map decoded words ≡ map Some insns
     → filter_map decoded words ≡ insns
-insns_of_words [] [] e = refl
-insns_of_words [] (i ∷ insns) e = absurd cc
-insns_of_words (w ∷ words) [] e = absurd cc
-insns_of_words (w ∷ words) (i ∷ insns) e =
+filter_map-decoded [] [] e = refl
+filter_map-decoded [] (i ∷ insns) e = absurd cc
+filter_map-decoded (w ∷ words) [] e = absurd cc
+filter_map-decoded (w ∷ words) (i ∷ insns) e =
     let here : decoded w ≡ Some i = cc in
     let later : map decoded words ≡ map Some insns = cc in
-    rw (here, insns_of_words words insns later) refl
+    rw (here, filter_map-decoded words insns later) refl
 
 -- nothing is refused
 pub not_refused : {A : Type 0} (a b : Option AsmFault) (r : Result A AsmFault) → option_or a b ≡ None

@@ -8,7 +8,7 @@ use Rattle.std.proofs.lemmas.List.{length-take, length-take-le, take-take, take_
 use Rattle.memchr.specs.Find.{IsFirstByte, is_byte}
 use Rattle.alpha_asm.specs.declared.lines.Line.{Line}
 use Rattle.alpha_asm.specs.SourceLines.{IsFirst, ended, unended, line_text, source_lines}
-use Rattle.alpha_asm.proofs.SourceLines.{HasNoLineFeed, ended_prefix, unended_all, texts_of}
+use Rattle.alpha_asm.proofs.SourceLines.{HasNoLineFeed, source_lines-ended, source_lines-unended, lines-source_lines}
 
 no_feed : (s : List ℕ) (n : ℕ) → n ≤ length s → ((k : ℕ) → k < n → eqb (get_or s k 0) 10 ≡ true → ⊥)
     → HasNoLineFeed (take n s)
@@ -29,10 +29,10 @@ take_one [] n h e = absurd (omega arith)
 take_one (b ∷ s) zero h e = ap (λ c. c ∷ []) (sym e)
 take_one (b ∷ s) (suc n) h e = ap (λ t. b ∷ t) (take_one s n (omega arith) e)
 
-pub first_found : (s : List ℕ) (n : ℕ) (l : Line) → IsFirstByte (is_byte 10) s (Some n)
+pub IsFirst-line_feed : (s : List ℕ) (n : ℕ) (l : Line) → IsFirstByte (is_byte 10) s (Some n)
     → l.text.now ≡ strip_carriage_return (take n s)
     → l.bytes.now ≡ take (n + 1) s → l.ended ≡ true → l.rest.now ≡ drop (n + 1) s → IsFirst s l
-first_found s n l h text bytes feed rest =
+IsFirst-line_feed s n l h text bytes feed rest =
     let inside : n < length s = h.0.high in
     let one : n + 1 ≡ suc n = omega arith in
     let ten : get_or s n 0 ≡ 10 = eqb-true (get_or s n 0) 10 h.1 in
@@ -45,7 +45,7 @@ first_found s n l h text bytes feed rest =
         ended = sym feed;
       };
       lines = ap source_lines (cut_there s n inside ten)
-          ∙ (ended_prefix (take n s) (drop (suc n) s) clean
+          ∙ (source_lines-ended (take n s) (drop (suc n) s) clean
           ∙ ap (λ t. ended (take n s) ∷ source_lines t) (ap (λ (m : ℕ). drop m s) (sym one) ∙ sym rest));
     }
 
@@ -54,24 +54,24 @@ all_clean [] none = tt
 all_clean (b ∷ s) none =
     (false_from_ne_true (eqb b 10) (none 0 (omega arith)), all_clean s (λ k l. none (suc k) (omega arith)))
 
-pub last_found : (s : List ℕ) (l : Line) → 0 < length s → IsFirstByte (is_byte 10) s None → l.text.now ≡ s
+pub IsFirst-no_line_feed : (s : List ℕ) (l : Line) → 0 < length s → IsFirstByte (is_byte 10) s None → l.text.now ≡ s
     → l.bytes.now ≡ s → l.ended ≡ false → l.rest.now ≡ [] → IsFirst s l
-last_found [] l some h text bytes feed rest = absurd (omega arith)
-last_found (b ∷ s) l some h text bytes feed rest = record {
+IsFirst-no_line_feed [] l some h text bytes feed rest = absurd (omega arith)
+IsFirst-no_line_feed (b ∷ s) l some h text bytes feed rest = record {
   line = unended (b ∷ s);
   is = record { text = sym text; bytes = sym bytes; ended = sym feed };
   lines =
-      unended_all b s (all_clean (b ∷ s) (λ k below. h k (omega arith) below))
+      source_lines-unended b s (all_clean (b ∷ s) (λ k below. h k (omega arith) below))
       ∙ ap (λ t. unended (b ∷ s) ∷ source_lines t) (sym rest);
 }
 
 -- the library says the same lines
-pub first_text : (s : List ℕ) (l : Line) → IsFirst s l → lines s ≡ l.text.now ∷ lines l.rest.now
-first_text s l f =
-    texts_of s
+pub lines-IsFirst : (s : List ℕ) (l : Line) → IsFirst s l → lines s ≡ l.text.now ∷ lines l.rest.now
+lines-IsFirst s l f =
+    lines-source_lines s
     ∙ (ap (map line_text) f.lines
     ∙ (ap (λ t. t ∷ map line_text (source_lines l.rest.now)) f.is.text
-    ∙ ap (λ ls. l.text.now ∷ ls) (sym (texts_of l.rest.now))))
+    ∙ ap (λ ls. l.text.now ∷ ls) (sym (lines-source_lines l.rest.now))))
 
 -- the front of a source is so many of its bytes
 front-take : (n : ℕ) (s : List ℕ) → take n s ≡ take (length (take n s)) s

@@ -172,7 +172,8 @@ cells_whole k line at (address r ∷ cs) front rest h =
     (ap (λ y. option_map_or (λ n. overlaid at n (front ++ y)) q (front ++ y))
     (append_assoc (low_bytes 8 0) (raw_cells cs) rest)
     ∙ (quad_whole k r q at front (raw_cells cs ++ rest) h ∙ sym (append_assoc front b (raw_cells cs ++ rest))))
-    ∙ (cells_whole k line (at + 8) cs (front ++ b) rest size ∙ sym (append_assoc-inner front b (flat_map (cell_bytes k) cs) rest))
+    ∙ (cells_whole k line (at + 8) cs (front ++ b) rest size
+    ∙ sym (append_assoc-inner front b (flat_map (cell_bytes k) cs) rest))
 
 length-cell_bytes : (k : Known) (c : Cell) → length (cell_bytes k c) ≡ cell_size c
 length-cell_bytes k (number bytes value) = length-asm_low_bytes bytes value

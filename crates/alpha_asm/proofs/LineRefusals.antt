@@ -74,11 +74,11 @@ item_line kind is line i p s h e =
     (sym s.line)))))
 
 -- an instruction without a label is refused where it may not stand, in a source of either kind
-pub code_here : (kind : SourceKind) (p : Pass) (insn : Form) (misplaced : Bool)
+pub refused_here-insn : (kind : SourceKind) (p : Pass) (insn : Form) (misplaced : Bool)
     → is_misplaced_insn (place_of p) insn ≡ misplaced
     → refused_here kind p (unlabelled insn) ≡ cond misplaced (Some (Section (p.line + 1))) None
-code_here kinds.Program p insn misplaced h = rw h refl
-code_here kinds.Module p insn misplaced h = rw h refl
+refused_here-insn kinds.Program p insn misplaced h = rw h refl
+refused_here-insn kinds.Module p insn misplaced h = rw h refl
 
 -- an item that is not refused has a new label
 new_label : (kind : SourceKind) (p : Pass) (i : LineStmt) → refused_here kind p i ≡ None
@@ -110,10 +110,10 @@ placed_item kind p i h =
     by false b h = refl
     by true b h = cc
 
-pub next_line : (kind : SourceKind) (is : List LineStmt) (line : List ℕ) (i : LineStmt) (old new : Pass)
+pub PassSimulates-next_line : (kind : SourceKind) (is : List LineStmt) (line : List ℕ) (i : LineStmt) (old new : Pass)
     → PassSimulates is old → read line ≡ Ok i → refused_here kind old i ≡ None → AddsItem i old new
     → PassSimulates (is ++ item_at line ∷ []) new
-next_line kind is line i old new s e taken a =
+PassSimulates-next_line kind is line i old new s e taken a =
     let at : item_at line ≡ i = rw e refl in
     rw at (PassSimulates-item is i old new s (placed_item kind old i taken) (new_label kind old i taken) a)
 

@@ -28,12 +28,12 @@ pub PassUnderway-start : (kind : SourceKind) (source : List ℕ) (p : Pass) → 
 PassUnderway-start kind source p s b e =
     record { items = []; stands = s; refusals = refl; all = refl; bounded = b; count = omega arith }
 
-pub pass-continues : (kind : SourceKind) (source rest line more : List ℕ) (old new : Pass)
+pub PassUnderway-next_line : (kind : SourceKind) (source rest line more : List ℕ) (old new : Pass)
     → PassUnderway kind source rest old → lines rest ≡ line ∷ lines more → length more < length rest
     → ((is : List LineStmt) → PassSimulates is old → refused kind is line ≡ None)
     → ((is : List LineStmt) → PassSimulates is old → PassSimulates (is ++ item_at line ∷ []) new)
     → IsBounded new → new.line ≡ old.line + 1 → PassUnderway kind source more new
-pass-continues kind source rest line more old new u e l taken stands bounded count =
+PassUnderway-next_line kind source rest line more old new u e l taken stands bounded count =
     let c : old.line + length rest ≤ length source = u.count in
     record {
       items = u.items ++ item_at line ∷ [];
@@ -62,19 +62,19 @@ empty-from_length : {A : Type 0} (xs : List A) → length xs ≡ 0 → xs ≡ []
 empty-from_length [] h = refl
 empty-from_length (x ∷ xs) h = absurd (omega arith)
 
-pub ends_stands : (kind : SourceKind) (source rest : List ℕ) (p : Pass) → PassUnderway kind source rest p
+pub PassUnderway-end_simulates : (kind : SourceKind) (source rest : List ℕ) (p : Pass) → PassUnderway kind source rest p
     → length rest ≡ 0
     → PassSimulates (map item_at (lines source)) p
-ends_stands kind source rest p u h =
+PassUnderway-end_simulates kind source rest p u h =
     let e : rest ≡ [] = empty-from_length rest h in
     let all : u.items ≡ map item_at (lines source) =
     sym (append-nil u.items) ∙ (ap (λ r. u.items ++ map item_at (lines r)) (sym e) ∙ u.all) in
     rw (← all) u.stands
 
-pub ends_taken : (kind : SourceKind) (source rest : List ℕ) (p : Pass) → PassUnderway kind source rest p
+pub PassUnderway-end_unrefused : (kind : SourceKind) (source rest : List ℕ) (p : Pass) → PassUnderway kind source rest p
     → length rest ≡ 0
     → first_refused kind [] (lines source) ≡ None
-ends_taken kind source rest p u h =
+PassUnderway-end_unrefused kind source rest p u h =
     let e : rest ≡ [] = empty-from_length rest h in
     sym u.refusals ∙ ap (λ r. first_refused kind u.items (lines r)) e
 

@@ -18,7 +18,8 @@ filled-snoc es s =
     ∙ ap (λ n. filled_size es + n) (sum_by-cons (λ s. s.filled) s [] ∙ omega arith)
 
 -- the segment in hand grows, where it may
-Filled-larger_segment : (level : Option ℕ) (section next : Section) (earlier : List Segment) (last more : Segment) (size added : ℕ)
+Filled-larger_segment : (level : Option ℕ) (section next : Section) (earlier : List Segment) (last more : Segment)
+    (size added : ℕ)
     → more.filled ≡ last.filled + added
     → ((n : ℕ) → level ≡ Some n → earlier ≡ [] → section ≡ Code → (next ≡ Code) × (added ≡ 0))
     → Filled level section earlier last size → Filled level next earlier more (size + added)
@@ -35,24 +36,28 @@ Filled-new_segment : (level : Option ℕ) (section : Section) (earlier : List Se
     → Filled level Data (earlier ++ last ∷ []) (fresh base) size
 Filled-new_segment None section earlier last base size h f = cc
 Filled-new_segment (Some n) section [] last base size h (c, z, s) = sym s
-Filled-new_segment (Some n) section (e ∷ es) last base size h f = omega (arith, f, filled-snoc (es ++ last ∷ []) (fresh base))
+Filled-new_segment (Some n) section (e ∷ es) last base size h f =
+    omega (arith, f, filled-snoc (es ++ last ∷ []) (fresh base))
 
 cond-both_zero : (b : Bool) → cond {A = ℕ} b 0 0 ≡ zero
 cond-both_zero true = refl
 cond-both_zero false = refl
 
 -- without data bytes
-Filled-without_data : (p : Place) (next : Section) (more : Segment) (size added : ℕ) → more.filled ≡ p.last.filled + added
+Filled-without_data : (p : Place) (next : Section) (more : Segment) (size added : ℕ)
+    → more.filled ≡ p.last.filled + added
     → added ≡ 0 → (p.section ≡ Code → next ≡ Code) → Filled p.level p.section p.earlier p.last size
     → Filled p.level next p.earlier more (size + added)
 Filled-without_data p next more size added g z stays f =
     Filled-larger_segment p.level p.section next p.earlier p.last more size added g (λ n e h c. (stays c, z)) f
 
 -- with data bytes, which stand in data
-Filled-with_data : (p : Place) (more : Segment) (size added : ℕ) → more.filled ≡ p.last.filled + added → (p.section ≡ Code → ⊥)
+Filled-with_data : (p : Place) (more : Segment) (size added : ℕ) → more.filled ≡ p.last.filled + added
+    → (p.section ≡ Code → ⊥)
     → Filled p.level p.section p.earlier p.last size → Filled p.level p.section p.earlier more (size + added)
 Filled-with_data p more size added g stands f =
-    Filled-larger_segment p.level p.section p.section p.earlier p.last more size added g (λ n e h c. absurd (stands c)) f
+    Filled-larger_segment p.level p.section p.section p.earlier p.last more size added g
+    (λ n e h c. absurd (stands c)) f
 
 pub or_true-not_false : (b : Bool) → (b || true) ≡ false → ⊥
 or_true-not_false true h = cc
@@ -84,7 +89,8 @@ filled-place_after p size says.empty h f =
     Filled-without_data p p.section (grown p says.empty) size (data_size says.empty + filled_pad p says.empty) refl
     (omega (arith, cond-both_zero p.has_zero)) (λ c. c) f.filled
 filled-place_after p size (says.code insn) h f =
-    Filled-without_data p p.section (grown p (says.code insn)) size (data_size (says.code insn) + filled_pad p (says.code insn)) refl
+    Filled-without_data p p.section (grown p (says.code insn)) size
+    (data_size (says.code insn) + filled_pad p (says.code insn)) refl
     (omega (arith, cond-both_zero p.has_zero)) (λ c. c) f.filled
 filled-place_after p size (says.target insn label offset) h f =
     Filled-without_data p p.section (grown p (says.target insn label offset)) size
@@ -99,26 +105,32 @@ filled-place_after p size (says.low insn label offset) h f =
     (data_size (says.low insn label offset) + filled_pad p (says.low insn label offset)) refl
     (omega (arith, cond-both_zero p.has_zero)) (λ c. c) f.filled
 filled-place_after p size (says.code_base n) h f =
-    Filled-without_data p p.section (grown p (says.code_base n)) size (data_size (says.code_base n) + filled_pad p (says.code_base n))
+    Filled-without_data p p.section (grown p (says.code_base n)) size
+    (data_size (says.code_base n) + filled_pad p (says.code_base n))
     refl (omega (arith, cond-both_zero p.has_zero)) (λ c. c) f.filled
 filled-place_after p size (says.data_base n) h f =
-    Filled-without_data p p.section (grown p (says.data_base n)) size (data_size (says.data_base n) + filled_pad p (says.data_base n))
+    Filled-without_data p p.section (grown p (says.data_base n)) size
+    (data_size (says.data_base n) + filled_pad p (says.data_base n))
     refl (omega (arith, cond-both_zero p.has_zero)) (λ c. c) f.filled
 filled-place_after p size (says.stack n) h f =
-    Filled-without_data p p.section (grown p (says.stack n)) size (data_size (says.stack n) + filled_pad p (says.stack n)) refl
+    Filled-without_data p p.section (grown p (says.stack n)) size
+    (data_size (says.stack n) + filled_pad p (says.stack n)) refl
     (omega (arith, cond-both_zero p.has_zero)) (λ c. c) f.filled
 filled-place_after p size (says.entry_at n) h f =
-    Filled-without_data p p.section (grown p (says.entry_at n)) size (data_size (says.entry_at n) + filled_pad p (says.entry_at n))
+    Filled-without_data p p.section (grown p (says.entry_at n)) size
+    (data_size (says.entry_at n) + filled_pad p (says.entry_at n))
     refl (omega (arith, cond-both_zero p.has_zero)) (λ c. c) f.filled
 filled-place_after p size (says.entry_label label offset) h f =
     Filled-without_data p p.section (grown p (says.entry_label label offset)) size
     (data_size (says.entry_label label offset) + filled_pad p (says.entry_label label offset)) refl
     (omega (arith, cond-both_zero p.has_zero)) (λ c. c) f.filled
 filled-place_after p size (says.zero n) h f =
-    Filled-without_data p p.section (grown p (says.zero n)) size (data_size (says.zero n) + filled_pad p (says.zero n)) refl
+    Filled-without_data p p.section (grown p (says.zero n)) size
+    (data_size (says.zero n) + filled_pad p (says.zero n)) refl
     (omega (arith, cond-both_zero p.has_zero)) (λ c. c) f.filled
 filled-place_after p size says.code_section h f =
-    Filled-without_data p Code (grown p says.code_section) size (data_size says.code_section + filled_pad p says.code_section) refl
+    Filled-without_data p Code (grown p says.code_section) size
+    (data_size says.code_section + filled_pad p says.code_section) refl
     (omega (arith, cond-both_zero p.has_zero)) (λ c. refl) f.filled
 filled-place_after p size says.data_section h f =
     Filled-larger_segment p.level p.section Data p.earlier p.last (grown p says.data_section) size
@@ -146,7 +158,8 @@ filled-place_after p size (says.level n) h f = by p.level p.earlier (f.fresh h) 
         → (level ≡ None) × (p.section ≡ Code) × (size ≡ 0) → Filled level p.section earlier p.last size
         → Filled (Some n) p.section earlier (grown p (says.level n))
         (size + (data_size (says.level n) + filled_pad p (says.level n)))
-    by None [] (l, c, z) (e, g) = (c, omega (arith, cond-both_zero p.has_zero), omega (arith, cond-both_zero p.has_zero))
+    by None [] (l, c, z) (e, g) =
+        (c, omega (arith, cond-both_zero p.has_zero), omega (arith, cond-both_zero p.has_zero))
     by None (s ∷ rest) (l, c, z) (e, g) = cc
     by (Some m) earlier (l, c, z) g = cc
 

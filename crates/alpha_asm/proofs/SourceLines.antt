@@ -75,8 +75,8 @@ source_lines-slice_split : (s : List ℕ) → source_lines s ≡ split_lines (sl
 source_lines-slice_split [] = refl
 source_lines-slice_split (b ∷ s) = split_step b s (eqb b 10) (source_lines-slice_split s)
 
-pub texts_of : (s : List ℕ) → lines s ≡ map line_text (source_lines s)
-texts_of s =
+pub lines-source_lines : (s : List ℕ) → lines s ≡ map line_text (source_lines s)
+lines-source_lines s =
     lines_of_parts-split_lines (slice_split is_line_feed s) ∙ ap (map line_text) (sym (source_lines-slice_split s))
 
 -- lines of which a text can be made: no line feed within, and only the last one without an end
@@ -91,21 +91,23 @@ AreLines (ended t ∷ ls) = HasNoLineFeed t × AreLines ls
 AreLines (unended [] ∷ ls) = ⊥
 AreLines (unended (b ∷ t) ∷ ls) = HasNoLineFeed (b ∷ t) × (ls ≡ [])
 
-pub ended_prefix : (t s : List ℕ) → HasNoLineFeed t → source_lines ((t ++ 10 ∷ []) ++ s) ≡ ended t ∷ source_lines s
-ended_prefix [] s n = refl
-ended_prefix (b ∷ t) s (e, n) = rw e (ap (longer b) (ended_prefix t s n))
+pub source_lines-ended : (t s : List ℕ) → HasNoLineFeed t
+    → source_lines ((t ++ 10 ∷ []) ++ s) ≡ ended t ∷ source_lines s
+source_lines-ended [] s n = refl
+source_lines-ended (b ∷ t) s (e, n) = rw e (ap (longer b) (source_lines-ended t s n))
 
-pub unended_all : (b : ℕ) (t : List ℕ) → HasNoLineFeed (b ∷ t) → source_lines (b ∷ t) ≡ unended (b ∷ t) ∷ []
-unended_all b [] (e, n) = rw e refl
-unended_all b (c ∷ t) (e, n) = rw e (ap (longer b) (unended_all c t n))
+pub source_lines-unended : (b : ℕ) (t : List ℕ) → HasNoLineFeed (b ∷ t) → source_lines (b ∷ t) ≡ unended (b ∷ t) ∷ []
+source_lines-unended b [] (e, n) = rw e refl
+source_lines-unended b (c ∷ t) (e, n) = rw e (ap (longer b) (source_lines-unended c t n))
 
-pub lines_back : (ls : List SourceLine) → AreLines ls → source_lines (flat_map line_bytes ls) ≡ ls
-lines_back [] a = refl
-lines_back (ended t ∷ ls) (n, a) = ended_prefix t (flat_map line_bytes ls) n ∙ ap (λ l. ended t ∷ l) (lines_back ls a)
-lines_back (unended [] ∷ ls) a = absurd a
-lines_back (unended (b ∷ t) ∷ ls) (n, e) =
+pub source_lines-line_bytes : (ls : List SourceLine) → AreLines ls → source_lines (flat_map line_bytes ls) ≡ ls
+source_lines-line_bytes [] a = refl
+source_lines-line_bytes (ended t ∷ ls) (n, a) =
+    source_lines-ended t (flat_map line_bytes ls) n ∙ ap (λ l. ended t ∷ l) (source_lines-line_bytes ls a)
+source_lines-line_bytes (unended [] ∷ ls) a = absurd a
+source_lines-line_bytes (unended (b ∷ t) ∷ ls) (n, e) =
     ap (λ l. source_lines ((b ∷ t) ++ flat_map line_bytes l)) e
-    ∙ (ap source_lines (append-nil (b ∷ t)) ∙ (unended_all b t n ∙ ap (λ l. unended (b ∷ t) ∷ l) (sym e)))
+    ∙ (ap source_lines (append-nil (b ∷ t)) ∙ (source_lines-unended b t n ∙ ap (λ l. unended (b ∷ t) ∷ l) (sym e)))
 
 are-longer : (b : ℕ) (ls : List SourceLine) → eqb b 10 ≡ false → AreLines ls → AreLines (longer b ls)
 are-longer b [] e a = ((e, tt), refl)
@@ -118,6 +120,6 @@ are_step : (b : ℕ) (ls : List SourceLine) (t : Bool) → eqb b 10 ≡ t → Ar
 are_step b ls true e a = (tt, a)
 are_step b ls false e a = are-longer b ls e a
 
-pub lines_are : (s : List ℕ) → AreLines (source_lines s)
-lines_are [] = tt
-lines_are (b ∷ s) = are_step b (source_lines s) (eqb b 10) refl (lines_are s)
+pub source_lines-AreLines : (s : List ℕ) → AreLines (source_lines s)
+source_lines-AreLines [] = tt
+source_lines-AreLines (b ∷ s) = are_step b (source_lines s) (eqb b 10) refl (source_lines-AreLines s)

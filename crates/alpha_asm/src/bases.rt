@@ -188,7 +188,7 @@ fn first_out_of_range(found: Option<u32>, fits: bool, line: u32) -> Option<u32>
 /// # Errors
 ///
 /// `Undefined` with the line of the first one whose label has no definition.
-pub(crate) fn put_all<'a>(
+pub(crate) fn put_addresses<'a>(
     bases: &Bases<'_, 'a>,
     patches: &[Patch<'a>],
     code: &mut Vec<Insn>,

@@ -14,7 +14,7 @@ ghost use Rattle.alpha_asm.specs.Finished.{fields_of, finished_numbers, finished
 ghost use Rattle.alpha_asm.specs.declared.fault.AsmFault.TheVariants as faults;
 
 use crate::AsmFault;
-use crate::bases::{Bases, put_all};
+use crate::bases::{Bases, put_addresses};
 use crate::fields::{Entry, FieldsRead};
 use crate::label::Labels;
 use crate::pass::Pass;
@@ -199,7 +199,7 @@ fn finish<'a>(pass: Pass<'a>, entry: &Entry<'a>) -> Result<(Finished, Labels<'a>
         segments: &segments,
         labels: &pass.labels,
     };
-    match put_all(&bases, &patches, &mut code, &mut bytes) {
+    match put_addresses(&bases, &patches, &mut code, &mut bytes) {
         Ok(unmet) => {
             let fields = fields_of(&bases, &pass.fields, level, entry);
             let finished = Finished {

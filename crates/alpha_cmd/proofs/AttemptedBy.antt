@@ -19,9 +19,11 @@ use Rattle.alpha_cmd.specs.Form.{Form, Kind, Needs, needs_nothing, needs_files, 
 use Rattle.alpha_cmd.specs.Attempts.{CutBy, FaultedAttemptBy, AttemptBy}
 use Rattle.alpha_cmd.specs.Commands.{form_of, kind_of, there_of, AnswerOf, EndsBy}
 use Rattle.alpha_cmd.specs.Tried.{IsAnswer, AreTold, AttemptedBy}
-use Rattle.alpha_cmd.proofs.FormLaws.{IsPlain, is_fault, one_answer, some_answer, plain_answer, ended_ends}
+use Rattle.alpha_cmd.proofs.FormLaws.{IsPlain, is_fault, AnswerBy-unique, AnswerBy-exists, AnswerBy-IsPlain}
+use Rattle.alpha_cmd.proofs.FormLaws.{AnswerBy-ended}
 use Rattle.alpha_cmd.proofs.Commands.Imprecise.{found_end}
-use Rattle.alpha_cmd.proofs.AttemptsByForm.{SaysFaultLine, plain, cut, fails_calm, fails_says, says_not_sink}
+use Rattle.alpha_cmd.proofs.AttemptsByForm.{SaysFaultLine, plain, cut, FaultedAttemptBy-no_fault}
+use Rattle.alpha_cmd.proofs.AttemptsByForm.{FaultedAttemptBy-fault_line, says_not_sink}
 use Rattle.alpha_cmd.proofs.AttemptsByForm.{says_not_input}
 use Rattle.alpha_cmd.proofs.AttemptsByForm.{says_not_shelf}
 use Rattle.alpha_cmd.proofs.Commands.{command_form-lawful}
@@ -31,7 +33,7 @@ use Rattle.alpha_cmd.proofs.Commands.{command_form-lawful}
 pub AnswerOf-single : (command : Command) (w : World) (a b : Answer) → IsToldFor (form_of command).needs w
     → AnswerOf command w a → AnswerOf command w b → a ≡ b
 AnswerOf-single command w a b told h g =
-    one_answer (form_of command) (there_of command) w (command_form-lawful command w) a b told h g
+    AnswerBy-unique (form_of command) (there_of command) w (command_form-lawful command w) a b told h g
 
 pub IsAnswer-single : (words : List (List ℕ)) (w : World) (a b : Answer) → AreTold words w → IsAnswer words w a
     → IsAnswer words w b → a ≡ b
@@ -51,16 +53,17 @@ IsAnswer-some words w told whole = by (asked words) refl
     by : (command : Option Command) → asked words ≡ command → (a : Answer) × IsAnswer words w a
     by None e = (status_answer w.input BadWords (status_line BadWords), inl (e, refl))
     by (Some command) e =
-        let (a, is) = some_answer (form_of command) (there_of command) w (command_form-lawful command w) told whole in
+        let (a, is) =
+        AnswerBy-exists (form_of command) (there_of command) w (command_form-lawful command w) told whole in
         (a, inr (command, e, is))
 
 -- ---- what a command tries is tried for the words that ask for it
 
-pub asked_tried : (shelf input : Type 0) (words : List (List ℕ)) (command : Command) (w : World) (t : Answer)
+pub AttemptedBy-of_command : (shelf input : Type 0) (words : List (List ℕ)) (command : Command) (w : World) (t : Answer)
     → AsksFor words command → AttemptBy shelf input (form_of command) w t
     → AttemptedBy shelf input words w t
-asked_tried shelf input words command w t asks (inl h) = inl (inr (command, asks, h))
-asked_tried shelf input words command w t asks (inr h) = inr (inl (command, asks, h))
+AttemptedBy-of_command shelf input words command w t asks (inl h) = inl (inr (command, asks, h))
+AttemptedBy-of_command shelf input words command w t asks (inr h) = inr (inl (command, asks, h))
 
 -- an answer to words is one of the command that they ask for
 pub asked_answer : (words : List (List ℕ)) (command : Command) (w : World) (a : Answer) → AsksFor words command
@@ -73,13 +76,14 @@ asked_answer words command w a asks (inr h) =
 
 -- ---- where no device fails it is an answer to the words, or memory ran out
 
-pub calm_tried : (shelf input : Type 0) (words : List (List ℕ)) (w : World) (t : Answer) → (shelf → ⊥) → (input → ⊥)
+pub AttemptedBy-no_fault : (shelf input : Type 0) (words : List (List ℕ)) (w : World) (t : Answer) → (shelf → ⊥)
+    → (input → ⊥)
     → AttemptedBy shelf input words w t
     → IsAnswer words w t ⊎ (t.status ≡ NoMemory)
-calm_tried shelf input words w t calm quiet (inl h) = inl h
-calm_tried shelf input words w t calm quiet (inr (inl h)) =
-    inr (fails_calm shelf input (form_of h.0) w t calm quiet h.2)
-calm_tried shelf input words w t calm quiet (inr (inr h)) = inr (ap (λ (a : Answer). a.status) h)
+AttemptedBy-no_fault shelf input words w t calm quiet (inl h) = inl h
+AttemptedBy-no_fault shelf input words w t calm quiet (inr (inl h)) =
+    inr (FaultedAttemptBy-no_fault shelf input (form_of h.0) w t calm quiet h.2)
+AttemptedBy-no_fault shelf input words w t calm quiet (inr (inr h)) = inr (ap (λ (a : Answer). a.status) h)
 
 -- ---- a call that is done
 
@@ -95,13 +99,13 @@ fails_failed shelf input f w t (inr (inl h)) = ap class_of h.status_is
 fails_failed shelf input f w t (inr (inr h)) = cut_failed shelf t.status h.cause
 
 -- what is tried with this status is an answer
-pub done_tried : (shelf input : Type 0) (words : List (List ℕ)) (command : Command) (w : World) (t : Answer)
+pub AttemptedBy-done : (shelf input : Type 0) (words : List (List ℕ)) (command : Command) (w : World) (t : Answer)
     → AsksFor words command → AttemptedBy shelf input words w t → t.status ≡ Done 0
     → AnswerOf command w t
-done_tried shelf input words command w t asks (inl h) e = asked_answer words command w t asks h
-done_tried shelf input words command w t asks (inr (inl h)) e =
+AttemptedBy-done shelf input words command w t asks (inl h) e = asked_answer words command w t asks h
+AttemptedBy-done shelf input words command w t asks (inr (inl h)) e =
     absurd (let x : done ≡ failed = sym (ap class_of e) ∙ fails_failed shelf input (form_of h.0) w t h.2 in cc)
-done_tried shelf input words command w t asks (inr (inr h)) e =
+AttemptedBy-done shelf input words command w t asks (inr (inr h)) e =
     absurd (let x : t.status ≡ NoMemory = ap (λ (a : Answer). a.status) h in cc)
 
 -- ---- which statuses are tried
@@ -112,46 +116,50 @@ tried_says : (shelf input : Type 0) (words : List (List ℕ)) (w : World) (t : A
     → AttemptedBy shelf input words w t → SaysFaultLine shelf input there t.status
 tried_says shelf input words w t there has (inl (inl h)) = plain (inl (ap (λ (a : Answer). is_fault a.status) h.1))
 tried_says shelf input words w t there has (inl (inr h)) =
-    weaker (plain_answer (form_of h.0) (there_of h.0) w (command_form-lawful h.0 w) t h.2)
+    weaker (AnswerBy-IsPlain (form_of h.0) (there_of h.0) w (command_form-lawful h.0 w) t h.2)
   where
     weaker : IsPlain (there_of h.0 w) t.status → SaysFaultLine shelf input there t.status
     weaker (inl p) = plain (inl p)
     weaker (inr p) = plain (inr (p.0, λ is. p.1 (has is h.0 h.1)))
-tried_says shelf input words w t there has (inr (inl h)) = fails_says shelf input there (form_of h.0) w t h.2
+tried_says shelf input words w t there has (inr (inl h)) =
+    FaultedAttemptBy-fault_line shelf input there (form_of h.0) w t h.2
 tried_says shelf input words w t there has (inr (inr h)) = cut (inl (ap (λ (a : Answer). a.status) h))
 
-pub tried_not_sink : (shelf input : Type 0) (words : List (List ℕ)) (w : World) (t : Answer)
+pub AttemptedBy-not_sink : (shelf input : Type 0) (words : List (List ℕ)) (w : World) (t : Answer)
     → AttemptedBy shelf input words w t → t.status ≢ SinkFault
-tried_not_sink shelf input words w t tried =
+AttemptedBy-not_sink shelf input words w t tried =
     says_not_sink shelf input ⊥ t.status (tried_says shelf input words w t ⊥ (λ no. absurd no) tried)
 
 -- of an input that doesn't fail
-pub tried_not_input : (shelf input : Type 0) (words : List (List ℕ)) (w : World) (t : Answer) → (input → ⊥)
+pub AttemptedBy-not_input : (shelf input : Type 0) (words : List (List ℕ)) (w : World) (t : Answer) → (input → ⊥)
     → AttemptedBy shelf input words w t → t.status ≢ InputFault
-tried_not_input shelf input words w t quiet tried =
+AttemptedBy-not_input shelf input words w t quiet tried =
     says_not_input shelf input ⊥ t.status quiet (tried_says shelf input words w t ⊥ (λ no. absurd no) tried)
 
 -- the kind of a command is that of its form
-pub kind_is : (command : Command) → (form_of command).kind ≡ kind_of command
-kind_is (of_image what file) = refl
-kind_is command = refl
+pub form_of-kind : (command : Command) → (form_of command).kind ≡ kind_of command
+form_of-kind (of_image what file) = refl
+form_of-kind command = refl
 
 ends_by : (command : Command) (s : Status) → (form_of command).kind.ends s → EndsBy command s
-ends_by command s = subst (λ (k : Kind). k.ends s) (kind_is command)
+ends_by command s = subst (λ (k : Kind). k.ends s) (form_of-kind command)
 
 -- the status of a program's end is one of the end of the words' command
-pub tried_ended : (shelf input : Type 0) (words : List (List ℕ)) (w : World) (t : Answer)
+pub AttemptedBy-ended : (shelf input : Type 0) (words : List (List ℕ)) (w : World) (t : Answer)
     → AttemptedBy shelf input words w t → class_of t.status ≡ ended
     → (command : Command) × AsksFor words command × EndsBy command t.status
-tried_ended shelf input words w t (inl (inl h)) is =
+AttemptedBy-ended shelf input words w t (inl (inl h)) is =
     let bad : class_of t.status ≡ refused = ap (λ (a : Answer). class_of a.status) h.1 in
     let no = sym is ∙ bad in absurd cc
-tried_ended shelf input words w t (inl (inr h)) is =
-    (h.0, h.1, ends_by h.0 t.status (ended_ends (form_of h.0) (there_of h.0) w (command_form-lawful h.0 w) t h.2 is))
-tried_ended shelf input words w t (inr (inl h)) is =
+AttemptedBy-ended shelf input words w t (inl (inr h)) is = (
+  h.0,
+  h.1,
+  ends_by h.0 t.status (AnswerBy-ended (form_of h.0) (there_of h.0) w (command_form-lawful h.0 w) t h.2 is),
+)
+AttemptedBy-ended shelf input words w t (inr (inl h)) is =
     let no = sym is ∙ fails_failed shelf input (form_of h.0) w t h.2 in
     absurd cc
-tried_ended shelf input words w t (inr (inr h)) is =
+AttemptedBy-ended shelf input words w t (inr (inr h)) is =
     let cut : class_of t.status ≡ failed = ap (λ (a : Answer). class_of a.status) h in
     let no = sym is ∙ cut in absurd cc
 
@@ -165,10 +173,10 @@ ended_found words options choices file lost asks (command, also, ends) =
     found_end lost (subst (λ (c : Command). EndsBy c (statuses.Lost lost)) same ends)
 
 -- of a shelf that doesn't fail, where the files are there
-pub tried_there : (shelf input : Type 0) (words : List (List ℕ)) (command : Command) (w : World) (t : Answer)
+pub AttemptedBy-not_shelf : (shelf input : Type 0) (words : List (List ℕ)) (command : Command) (w : World) (t : Answer)
     → (shelf → ⊥) → AsksFor words command → there_of command w
     → AttemptedBy shelf input words w t → t.status ≢ ShelfFault
-tried_there shelf input words command w t calm asks there tried =
+AttemptedBy-not_shelf shelf input words command w t calm asks there tried =
     says_not_shelf shelf input (there_of command w) t.status calm there
     (tried_says shelf input words w t (there_of command w) own tried)
   where

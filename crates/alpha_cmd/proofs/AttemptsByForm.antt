@@ -54,11 +54,11 @@ cut_calm : (shelf : Type 0) (s : Status) → (shelf → ⊥) → CutBy shelf s �
 cut_calm shelf s calm (inl h) = h
 cut_calm shelf s calm (inr h) = absurd (calm h.1)
 
-pub fails_calm : (shelf input : Type 0) (f : Form) (w : World) (t : Answer) → (shelf → ⊥) → (input → ⊥)
+pub FaultedAttemptBy-no_fault : (shelf input : Type 0) (f : Form) (w : World) (t : Answer) → (shelf → ⊥) → (input → ⊥)
     → FaultedAttemptBy shelf input f w t → t.status ≡ NoMemory
-fails_calm shelf input f w t calm quiet (inl h) = cut_calm shelf t.status calm h.cause
-fails_calm shelf input f w t calm quiet (inr (inl h)) = absurd (quiet h.cause)
-fails_calm shelf input f w t calm quiet (inr (inr h)) = cut_calm shelf t.status calm h.cause
+FaultedAttemptBy-no_fault shelf input f w t calm quiet (inl h) = cut_calm shelf t.status calm h.cause
+FaultedAttemptBy-no_fault shelf input f w t calm quiet (inr (inl h)) = absurd (quiet h.cause)
+FaultedAttemptBy-no_fault shelf input f w t calm quiet (inr (inr h)) = cut_calm shelf t.status calm h.cause
 
 -- ---- which statuses are tried
 
@@ -68,11 +68,12 @@ pub data SaysFaultLine (shelf input : Type 0) (there : Type 0) (s : Status) : Ty
   cut : CutBy shelf s → SaysFaultLine shelf input there s
   starved : s ≡ InputFault → input → SaysFaultLine shelf input there s
 
-pub fails_says : (shelf input there : Type 0) (f : Form) (w : World) (t : Answer) → FaultedAttemptBy shelf input f w t
+pub FaultedAttemptBy-fault_line : (shelf input there : Type 0) (f : Form) (w : World) (t : Answer)
+    → FaultedAttemptBy shelf input f w t
     → SaysFaultLine shelf input there t.status
-fails_says shelf input there f w t (inl h) = cut h.cause
-fails_says shelf input there f w t (inr (inl h)) = starved h.status_is h.cause
-fails_says shelf input there f w t (inr (inr h)) = cut h.cause
+FaultedAttemptBy-fault_line shelf input there f w t (inl h) = cut h.cause
+FaultedAttemptBy-fault_line shelf input there f w t (inr (inl h)) = starved h.status_is h.cause
+FaultedAttemptBy-fault_line shelf input there f w t (inr (inr h)) = cut h.cause
 
 pub says_not_sink : (shelf input there : Type 0) (s : Status) → SaysFaultLine shelf input there s → s ≢ SinkFault
 says_not_sink shelf input there s (plain (inl h)) e = let x = sym h ∙ ap is_fault e in cc

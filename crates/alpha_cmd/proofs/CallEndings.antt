@@ -14,7 +14,7 @@ use Rattle.alpha_cmd.specs.AnswerBy.{World}
 use Rattle.alpha_cmd.specs.Kept.{Kept, nothing, HasKept}
 use Rattle.alpha_cmd.specs.Ends.{EndsCall, EndsPart, Leaves, OutcomeOrFault, still}
 use Rattle.alpha_cmd.specs.Tried.{IsAnswer, AttemptedBy, IsGiven}
-use Rattle.alpha_cmd.proofs.AttemptedBy.{calm_tried, tried_not_sink}
+use Rattle.alpha_cmd.proofs.AttemptedBy.{AttemptedBy-no_fault, AttemptedBy-not_sink}
 
 IsLeft-same : (left : Option (List ℕ)) → IfSome left (λ rest. left ≡ Some rest)
 IsLeft-same None = tt
@@ -80,7 +80,7 @@ pub Leaves-not_sink : (shelf input : Type 0) (words : List (List ℕ))
     → Leaves (AttemptedBy shelf input words w) rest s out notes
     → rest.status ≢ SinkFault
 Leaves-not_sink shelf input words w rest s out notes h e =
-    tried_not_sink shelf input words w h.tried h.is (sym h.status_is ∙ e)
+    AttemptedBy-not_sink shelf input words w h.tried h.is (sym h.status_is ∙ e)
 
 -- ---- the rest is written: the output is o, p and q at one moment after another, the notes are x, y and z
 
@@ -159,14 +159,14 @@ given_whole shelf input words w status left s out notes calm quiet ends =
       },
     ))
     (λ (memory : ends.tried.status ≡ NoMemory). inr (ends.status_is ∙ memory))
-    (calm_tried shelf input words w ends.tried calm quiet ends.is)
+    (AttemptedBy-no_fault shelf input words w ends.tried calm quiet ends.is)
 
 -- where all of them are this one, but for what a status is told as, it was given
-pub given_as : (told : Status → Status) (words : List (List ℕ)) (w : World) (a : Answer) (status : Status)
+pub IsGiven-IsAnswered : (told : Status → Status) (words : List (List ℕ)) (w : World) (a : Answer) (status : Status)
     (left : Option (List ℕ)) (s : ShelfChange) (out notes : SinkChange)
     → ((b : Answer) → IsAnswer words w b → ◌≡◌ {A = Answer} (record b { status = told b.status }) a)
     → IsGiven words w status left s out notes → IsAnswered a (told status) left s out notes ⊎ (status ≡ NoMemory)
-given_as told words w a status left s out notes one (inl (b, is, given)) =
+IsGiven-IsAnswered told words w a status left s out notes one (inl (b, is, given)) =
     inl (subst (λ (x : Answer). IsAnswered x (told status) left s out notes) (one b is) (record {
       status_is = ap told given.status_is;
       left_is = given.left_is;
@@ -174,7 +174,7 @@ given_as told words w a status left s out notes one (inl (b, is, given)) =
       output = given.output;
       line = given.line;
     }))
-given_as told words w a status left s out notes one (inr memory) = inr memory
+IsGiven-IsAnswered told words w a status left s out notes one (inr memory) = inr memory
 
 -- no sink failed
 pub calm_part : (P : Answer → Type 0) (s : ShelfChange) (out notes : SinkChange) → EndsPart P s out notes

@@ -8,7 +8,7 @@ use Rattle.alpha_io.specs.SinkChange.{SinkChange, sink_change, Puts, WritesPartl
 use Rattle.alpha_io.proofs.FaultCounts.{Faulted-not_NoFault}
 use Rattle.alpha_shadow.specs.Broken.{IsAccepted}
 use Rattle.alpha_imprecise.specs.Restart.{IsRestartable}
-use Rattle.alpha_restart.proofs.Agreement.{accepted_restarts}
+use Rattle.alpha_restart.proofs.Agreement.{IsAccepted-IsRestartable}
 use Rattle.alpha_request.specs.Asked.{asked}
 use Rattle.alpha_request.specs.Command.{Command, check, fix, make_module, link, replay, run, imprecise}
 use Rattle.alpha_request.specs.Origin.{seed}
@@ -46,16 +46,16 @@ use Rattle.alpha_cmd.specs.ToldRun.{answer_told, RanTold}
 use Rattle.alpha_cmd.specs.Tried.{IsAnswer}
 use Rattle.alpha_cmd.proofs.AcceptedFiles.{accepted-IsChecked as checked_file}
 use Rattle.alpha_cmd.proofs.CallEndings as endings
-use Rattle.alpha_cmd.proofs.CallEndings.{Leaves-not_sink, given_whole, given_as, calm_part}
+use Rattle.alpha_cmd.proofs.CallEndings.{Leaves-not_sink, given_whole, IsGiven-IsAnswered, calm_part}
 use Rattle.alpha_cmd.proofs.IsFixed.{tried_fixed}
 use Rattle.alpha_cmd.proofs.FormLaws.{is_fault}
 use Rattle.alpha_cmd.proofs.JournalStatus.{journal_status-no_end}
 use Rattle.alpha_cmd.proofs.KeptLinks.{kept_link}
 use Rattle.alpha_cmd.proofs.KeptModules.{kept_module}
-use Rattle.alpha_cmd.proofs.InputFreePrograms.{one_unread, unread_alike as alike_unread}
+use Rattle.alpha_cmd.proofs.InputFreePrograms.{answer_unread-unique, answer_unread-imprecise as alike_unread}
 use Rattle.alpha_cmd.proofs.ReplayedRuns.{shows_run}
 use Rattle.alpha_cmd.proofs.ToldRuns.{imprecise_told, run_told}
-use Rattle.alpha_cmd.proofs.AttemptedBy.{IsAnswer-single, asked_answer, tried_ended, ended_found}
+use Rattle.alpha_cmd.proofs.AttemptedBy.{IsAnswer-single, asked_answer, AttemptedBy-ended, ended_found}
 use Rattle.alpha_cmd.proofs.AttemptsByForm.{MayTake-sink, Spares-sink}
 
 -- all of what was tried was written, or a sink failed
@@ -101,7 +101,7 @@ can_restart s file r = record {
   good = r.good;
   read = r.read;
   told = r.told;
-  has = accepted_restarts r.image r.good r.has;
+  has = IsAccepted-IsRestartable r.image r.good r.has;
 }
 
 -- what stands of files and of input stands under the status that its delivery answers
@@ -163,7 +163,7 @@ module _ {words : List (List ℕ)} {status : Status} {c : Call} where
   pub CallEnded-EndsAsked : CallEnded words status c → EndsAsked words status
   CallEnded-EndsAsked (written calm ends) is =
       subst (λ (s : Status). (command : Command) × AsksFor words command × EndsBy command s) (sym ends.status_is)
-      (tried_ended (Faulted c.shelf.before c.shelf.now) (Faulted c.input.before c.input.now) words
+      (AttemptedBy-ended (Faulted c.shelf.before c.shelf.now) (Faulted c.input.before c.input.now) words
       (told c) ends.tried ends.is (sym (ap class_of ends.status_is) ∙ is))
   CallEnded-EndsAsked (failed is ends) over = absurd (let x = sym over ∙ ap class_of is in cc)
 
@@ -215,7 +215,7 @@ module _ {words : List (List ℕ)} {status : Status} {c : Call} (call_ended : Ca
 
   pub CallEnded-GivesThe : GivesThe words status c
   CallEnded-GivesThe a read quiet is =
-      given_as (λ s. s) words (told c) a status c.input.new.left c.shelf c.out c.notes
+      IsGiven-IsAnswered (λ s. s) words (told c) a status c.input.new.left c.shelf c.out c.notes
       (λ b also. IsAnswer-single words (told c) b a read also is) (CallEnded-GivesOne call_ended quiet)
 
   pub CallEnded-Accepts : Accepts words status c
@@ -234,7 +234,7 @@ module _ {words : List (List ℕ)} {status : Status} {c : Call} (call_ended : Ca
       → Answered a (but_drawn status) c
   gave_undrawn a same quiet =
       ⊎_elim (λ h. inl h) (λ (memory : status ≡ NoMemory). inr (ap but_drawn memory))
-      (given_as but_drawn words (told c) a status c.input.new.left c.shelf c.out c.notes same
+      (IsGiven-IsAnswered but_drawn words (told c) a status c.input.new.left c.shelf c.out c.notes same
       (CallEnded-GivesOne call_ended quiet))
 
   pub CallEnded-Alike : Alike words status c
@@ -259,9 +259,9 @@ module _ {words : List (List ℕ)} {status : Status} {c : Call} (call_ended : Ca
 
   pub CallEnded-Unread : Unread words status c
   CallEnded-Unread options name image asks files found nothing quiet =
-      given_as (λ s. s) words (told c)
+      IsGiven-IsAnswered (λ s. s) words (told c)
       (answer_unread options image c.input.old.left) status c.input.new.left c.shelf c.out c.notes
-      (λ a is. one_unread options name image (told c) a files found nothing
+      (λ a is. answer_unread-unique options name image (told c) a files found nothing
       (asked_answer words (run options name) (told c) a (asked_rows words (run options name) asks) is))
       (CallEnded-GivesOne call_ended quiet)
 

@@ -130,32 +130,34 @@ module _ (shelf : Type 0) (f : Form) (w : World) (takes : IsTrue f.kind.takes) (
 -- ---- its status
 
 -- it is that of a fault of the input or of a sink
-pub cut_status : (fault : Fault) (r : Result Decision Failed) → IsCutShort fault r
+pub IsCutShort-status : (fault : Fault) (r : Result Decision Failed) → IsCutShort fault r
     → (status_in r ≡ InputFault) ⊎ (status_in r ≡ SinkFault)
-cut_status faults.Input (Ok decision) says = inl (ap (λ (a : Answer). a.status) (says None))
-cut_status faults.Input (Err failed) says = absurd says
-cut_status faults.Output (Ok decision) says = absurd says
-cut_status faults.Output (Err failed) says = inr refl
-cut_status faults.Notes (Ok decision) says = absurd says
-cut_status faults.Notes (Err failed) says = inr refl
+IsCutShort-status faults.Input (Ok decision) says = inl (ap (λ (a : Answer). a.status) (says None))
+IsCutShort-status faults.Input (Err failed) says = absurd says
+IsCutShort-status faults.Output (Ok decision) says = absurd says
+IsCutShort-status faults.Output (Err failed) says = inr refl
+IsCutShort-status faults.Notes (Ok decision) says = absurd says
+IsCutShort-status faults.Notes (Err failed) says = inr refl
 
-pub cut_takes : (k : Kind) → IsTrue k.takes → (fault : Fault) (r : Result Decision Failed) → IsCutShort fault r
+pub IsCutShort-MayTakeBy : (k : Kind) → IsTrue k.takes → (fault : Fault) (r : Result Decision Failed)
+    → IsCutShort fault r
     → MayTakeBy k (status_in r)
-cut_takes k takes fault r says =
+IsCutShort-MayTakeBy k takes fault r says =
     ⊎_elim (λ (is : status_in r ≡ InputFault). (takes, inr (inl is)))
-    (λ (is : status_in r ≡ SinkFault). (takes, inr (inr (inl is)))) (cut_status fault r says)
+    (λ (is : status_in r ≡ SinkFault). (takes, inr (inr (inl is)))) (IsCutShort-status fault r says)
 
-pub cut_counts : (fault : Fault) (r : Result Decision Failed) (d : Drawn) (out notes : SinkChange) → IsCutShort fault r
+pub IsCutShort-CountStays : (fault : Fault) (r : Result Decision Failed) (d : Drawn) (out notes : SinkChange)
+    → IsCutShort fault r
     → Causes fault d out notes
     → CountStays d (IfOk r (λ decision. decision.status ≢ InputFault))
-cut_counts faults.Input (Ok decision) d out notes says cause = record {
+IsCutShort-CountStays faults.Input (Ok decision) d out notes says cause = record {
   later = cause.later;
   faults_unchanged = λ other. absurd (other (ap (λ (a : Answer). a.status) (says None)));
 }
-cut_counts faults.Input (Err failed) d out notes says cause = absurd says
-cut_counts faults.Output (Ok decision) d out notes says cause = absurd says
-cut_counts faults.Output (Err failed) d out notes says cause =
+IsCutShort-CountStays faults.Input (Err failed) d out notes says cause = absurd says
+IsCutShort-CountStays faults.Output (Ok decision) d out notes says cause = absurd says
+IsCutShort-CountStays faults.Output (Err failed) d out notes says cause =
     record { later = omega (arith, cause.source); faults_unchanged = λ other. cause.source }
-cut_counts faults.Notes (Ok decision) d out notes says cause = absurd says
-cut_counts faults.Notes (Err failed) d out notes says cause =
+IsCutShort-CountStays faults.Notes (Ok decision) d out notes says cause = absurd says
+IsCutShort-CountStays faults.Notes (Err failed) d out notes says cause =
     record { later = omega (arith, cause.source); faults_unchanged = λ other. cause.source }

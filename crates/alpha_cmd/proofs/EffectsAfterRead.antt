@@ -29,7 +29,7 @@ use Rattle.alpha_cmd.proofs.StageEffects.{Serves-after, does_stopped}
 use Rattle.alpha_cmd.proofs.CallEndings.{OutcomeOrFault-map}
 use Rattle.alpha_cmd.proofs.KeptBytes.{HasKept-after, SparesBy-after}
 use Rattle.alpha_cmd.proofs.Lawful.{Then-stops}
-use Rattle.alpha_cmd.proofs.StageLaws.{kept_same}
+use Rattle.alpha_cmd.proofs.StageLaws.{KeepsFiles-equal}
 use Rattle.alpha_cmd.proofs.AttemptsByForm.{CutBy-map, Cuts-map}
 
 module _ {X : Type 0} (R : Files → Outcome X → Type 0) (T : World → X → Outcome Answer → Type 0) (needs : Needs)
@@ -128,7 +128,7 @@ second_stops {Z = Z} h old middle new R S T of x stop stays is found reads stage
           x,
           found,
           inl (subst (λ (f : Files). S f (stops (stop_status stop) (stop_line stop)))
-              (kept_same (h.files old) (h.files middle) reads.files) stopped),
+              (KeepsFiles-equal (h.files old) (h.files middle) reads.files) stopped),
         ))
     why (inr cut) =
         inr (Cuts-map _ _ (Faulted-earlier (h.faults old) (h.faults middle) (h.faults new) reads.later) stop cut)
@@ -167,7 +167,7 @@ module _ {H S K N : Type 0} (h : shelves.Ghosts H) (s : sources.Ghosts S) (k : s
   world_same : (stays : Type 0) → OnlyReads (shelf_change h old.shelf middle) stays
       → world h s middle old.input ≡ world h s old.shelf old.input
   world_same stays reads = λ i. record {
-    files = kept_same (h.files old.shelf) (h.files middle) reads.files i;
+    files = KeepsFiles-equal (h.files old.shelf) (h.files middle) reads.files i;
     takes = reads.takes i;
     input = s.left old.input;
   }

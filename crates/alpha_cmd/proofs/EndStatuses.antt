@@ -20,7 +20,7 @@ use Rattle.alpha_cmd.specs.Ends.{status_in}
 use Rattle.alpha_cmd.specs.Ran.{IsRunEnd}
 use Rattle.alpha_cmd.specs.RunAnswer.{run_status}
 use Rattle.alpha_cmd.specs.RunsAsked.{HasEnded}
-use Rattle.alpha_cmd.proofs.CutShort.{cut_status}
+use Rattle.alpha_cmd.proofs.CutShort.{IsCutShort-status}
 use Rattle.alpha_cmd.proofs.Lawful.{IsRefusal}
 
 class_drawn : (status : Status) → class_of (but_drawn status) ≡ class_of status
@@ -33,8 +33,8 @@ end_class (Some (ends.Exit v)) = inl refl
 end_class (Some end) = inr refl
 
 -- it is done or ended
-pub run_end_class : (status : Status) → IsRunEnd status → HasEnded status
-run_end_class status is =
+pub IsRunEnd-HasEnded : (status : Status) → IsRunEnd status → HasEnded status
+IsRunEnd-HasEnded status is =
     let same : class_of status ≡ class_of (run_status is.0) = sym (class_drawn status) ∙ ap class_of is.1 in
     ⊎_elim (λ (h : class_of (run_status is.0) ≡ done). inl (same ∙ h))
     (λ (h : class_of (run_status is.0) ≡ ended). inr (same ∙ h)) (end_class is.0)
@@ -46,16 +46,16 @@ status-not_ended status class here not_done not_ended is =
     ⊎_elim (λ (h : class_of status ≡ done). not_done (sym here ∙ h))
     (λ (h : class_of status ≡ ended). not_ended (sym here ∙ h)) is
 
-pub memory_unended : HasEnded NoMemory → ⊥
-memory_unended is = status-not_ended NoMemory (class_of NoMemory) refl (λ h. cc) (λ h. cc) is
+pub HasEnded-not_NoMemory : HasEnded NoMemory → ⊥
+HasEnded-not_NoMemory is = status-not_ended NoMemory (class_of NoMemory) refl (λ h. cc) (λ h. cc) is
 
-pub sink_unended : HasEnded SinkFault → ⊥
-sink_unended is = status-not_ended SinkFault (class_of SinkFault) refl (λ h. cc) (λ h. cc) is
+pub HasEnded-not_SinkFault : HasEnded SinkFault → ⊥
+HasEnded-not_SinkFault is = status-not_ended SinkFault (class_of SinkFault) refl (λ h. cc) (λ h. cc) is
 
-pub drawn_end : (end : Option End) → but_drawn (run_status end) ≡ run_status end
-drawn_end None = refl
-drawn_end (Some (ends.Exit v)) = refl
-drawn_end (Some end) = refl
+pub but_drawn-run_status : (end : Option End) → but_drawn (run_status end) ≡ run_status end
+but_drawn-run_status None = refl
+but_drawn-run_status (Some (ends.Exit v)) = refl
+but_drawn-run_status (Some end) = refl
 
 -- nor a stage that stopped
 stop_unended : {X : Type 0} (R : Outcome X → Type 0) (shelf : Type 0)
@@ -72,28 +72,33 @@ stop_unended R shelf plain stop (inr (inl e)) is =
 stop_unended R shelf plain stop (inr (inr h)) is =
     status-not_ended (stop_status stop) _ (ap (λ (s : Stop). class_of (stop_status s)) h.0) (λ e. cc) (λ e. cc) is
 
-pub stopped_unended : {X : Type 0} (R : Outcome X → Type 0) (shelf : Type 0)
+pub HasEnded-not_stopped : {X : Type 0} (R : Outcome X → Type 0) (shelf : Type 0)
     → ((s : Status) (line : List ℕ) → R (stops s line) → IsRefusal ⊥ s)
     → (stop : Stop) (d : Decision) → SaysStop stop d → StopsBy R shelf stop → HasEnded d.status → ⊥
-stopped_unended R shelf plain stop d says why is =
+HasEnded-not_stopped R shelf plain stop d says why is =
     stop_unended R shelf plain stop why (subst HasEnded (ap (λ (a : Answer). a.status) (says None)) is)
 
 -- nor are want of memory, bad words and a run that was cut short
-pub said_unended : (d : Decision) → d.status ≡ NoMemory → HasEnded d.status → ⊥
-said_unended d says is = status-not_ended d.status (class_of NoMemory) (ap class_of says) (λ h. cc) (λ h. cc) is
+pub HasEnded-not_memory_status : (d : Decision) → d.status ≡ NoMemory → HasEnded d.status → ⊥
+HasEnded-not_memory_status d says is =
+    status-not_ended d.status (class_of NoMemory) (ap class_of says) (λ h. cc) (λ h. cc) is
 
-pub shelf_unended : (d : Decision) → d.status ≡ ShelfFault → HasEnded d.status → ⊥
-shelf_unended d says is = status-not_ended d.status (class_of ShelfFault) (ap class_of says) (λ h. cc) (λ h. cc) is
+pub HasEnded-not_ShelfFault : (d : Decision) → d.status ≡ ShelfFault → HasEnded d.status → ⊥
+HasEnded-not_ShelfFault d says is =
+    status-not_ended d.status (class_of ShelfFault) (ap class_of says) (λ h. cc) (λ h. cc) is
 
-pub input_unended : (d : Decision) → d.status ≡ InputFault → HasEnded d.status → ⊥
-input_unended d says is = status-not_ended d.status (class_of InputFault) (ap class_of says) (λ h. cc) (λ h. cc) is
+pub HasEnded-not_InputFault : (d : Decision) → d.status ≡ InputFault → HasEnded d.status → ⊥
+HasEnded-not_InputFault d says is =
+    status-not_ended d.status (class_of InputFault) (ap class_of says) (λ h. cc) (λ h. cc) is
 
-pub words_unended : (d : Decision) → d.status ≡ BadWords → HasEnded d.status → ⊥
-words_unended d says is = status-not_ended d.status (class_of BadWords) (ap class_of says) (λ h. cc) (λ h. cc) is
+pub HasEnded-not_BadWords : (d : Decision) → d.status ≡ BadWords → HasEnded d.status → ⊥
+HasEnded-not_BadWords d says is =
+    status-not_ended d.status (class_of BadWords) (ap class_of says) (λ h. cc) (λ h. cc) is
 
-pub cut_unended : (fault : Fault) (r : Result Decision Failed) → IsCutShort fault r → HasEnded (status_in r) → ⊥
-cut_unended fault r says is =
+pub HasEnded-not_cut_short : (fault : Fault) (r : Result Decision Failed) → IsCutShort fault r → HasEnded (status_in r)
+    → ⊥
+HasEnded-not_cut_short fault r says is =
     ⊎_elim (λ (e : status_in r ≡ InputFault).
     status-not_ended (status_in r) (class_of InputFault) (ap class_of e) (λ h. cc) (λ h. cc) is)
     (λ (e : status_in r ≡ SinkFault). status-not_ended (status_in r) (class_of SinkFault) (ap class_of e) (λ h. cc)
-    (λ h. cc) is) (cut_status fault r says)
+    (λ h. cc) is) (IsCutShort-status fault r says)

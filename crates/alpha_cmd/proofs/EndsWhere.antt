@@ -5,10 +5,10 @@ use Rattle.alpha_io.specs.SinkChange.{SinkChange}
 use Rattle.alpha_io.specs.declared.Failed.{Failed}
 use Rattle.alpha_io.specs.ShelfChange.{ShelfChange}
 use Rattle.alpha_io.specs.History.{Reply, IsReadWhole}
-use Rattle.alpha_io.proofs.FilePieces.{one_file, one_read}
+use Rattle.alpha_io.proofs.FilePieces.{IsReadWhole-unique, one_read}
 use Rattle.alpha_image.specs.Parts.{Parts, IsImage, image_spelling}
 use Rattle.alpha_image.specs.ImageFault.{first_fault}
-use Rattle.alpha_image.proofs.Spelled.{one_image, first_fault-image_spelling}
+use Rattle.alpha_image.proofs.Spelled.{image_spelling-injective, first_fault-image_spelling}
 use Rattle.alpha_shadow.specs.Broken.{IsAccepted}
 use Rattle.alpha_request.specs.declared.request.ImageCommand.{ImageCommand}
 use Rattle.alpha_request.specs.declared.request.ImageCommand.TheVariants as images
@@ -34,7 +34,7 @@ use Rattle.alpha_cmd.specs.Commands.Imprecise.{Plan}
 use Rattle.alpha_cmd.specs.PlanRead.{ReadsWords, IsPlanRead}
 use Rattle.alpha_cmd.specs.Ran.{FailsOnTheWay, end_on}
 use Rattle.alpha_cmd.specs.RunsAsked.{EndsAsRun, EndsOf, EndsPlan, DecidesPlan}
-use Rattle.alpha_cmd.proofs.CutShort.{cut_status}
+use Rattle.alpha_cmd.proofs.CutShort.{IsCutShort-status}
 
 -- ---- an image that was read
 
@@ -47,13 +47,13 @@ spelling_taken bytes image status good same (inl ((fault, is, first), line)) =
     absurd (let e = sym none ∙ first in cc)
 spelling_taken bytes image status good same (inr h) = ap OfStatus h.0
 
-pub image_taken : (old new : List Reply) (name bytes : List ℕ) (image : Parts) (status : Status)
+pub image_spelling-memory_refusal : (old new : List Reply) (name bytes : List ℕ) (image : Parts) (status : Status)
     → IsReadWhole old new name bytes
     → IsImage image → IsReadWhole old new name (image_spelling image)
     → Spells bytes (stops status (status_line status)) ⊎ ((status ≡ NoMemory) × (first_fault bytes ≡ None))
     → OfStatus status ≡ OfStatus NoMemory
-image_taken old new name bytes image status read good whole why =
-    spelling_taken bytes image status good (one_file old new name bytes (image_spelling image) read whole) why
+image_spelling-memory_refusal old new name bytes image status read good whole why =
+    spelling_taken bytes image status good (IsReadWhole-unique old new name bytes (image_spelling image) read whole) why
 
 -- so are the first that were read
 pub first_taken : (old new middle rest : List Reply) (name bytes : List ℕ) (image : Parts) (status : Status)
@@ -71,8 +71,8 @@ pub read_accepted : (old new : List Reply) (name : List ℕ) (found image : Part
     → IsImage image → IsReadWhole old new name (image_spelling image) → IsAccepted image.words → IsAccepted found.words
 read_accepted old new name found image read good whole accepted =
     subst (λ (p : Parts). IsAccepted p.words)
-    (one_image image found good read.0
-    (one_file old new name (image_spelling image) (image_spelling found) whole read.1)) accepted
+    (image_spelling-injective image found good read.0
+    (IsReadWhole-unique old new name (image_spelling image) (image_spelling found) whole read.1)) accepted
 
 -- where a seed gives the words nothing but the image is read
 pub seeded_read : (old new : List Reply) (choices : Origin) (name : List ℕ) (plan : Plan) (n : ℕ) → choices ≡ seed n
@@ -99,16 +99,17 @@ plan_ends options true plan decision d out sink h = (
 pub memory_said : (stop : Stop) (d : Decision) → SaysStop stop d → stop ≡ OfStatus NoMemory → d.status ≡ NoMemory
 memory_said stop d says is = ap (λ (a : Answer). a.status) (says None) ∙ ap stop_status is
 
-pub memory_fails : (End : Type 0) (stop : Stop) (d : Decision) → SaysStop stop d → stop ≡ OfStatus NoMemory
+pub SaysStop-memory_FailsOnTheWay : (End : Type 0) (stop : Stop) (d : Decision) → SaysStop stop d
+    → stop ≡ OfStatus NoMemory
     → End ⊎ FailsOnTheWay d.status
-memory_fails End stop d says is = inr (inl (memory_said stop d says is))
+SaysStop-memory_FailsOnTheWay End stop d says is = inr (inl (memory_said stop d says is))
 
 -- a run that was cut short
 pub cut_fails : (End : Type 0) (fault : Fault) (r : Result Decision Failed) → IsCutShort fault r
     → End ⊎ FailsOnTheWay (status_in r)
 cut_fails End fault r says =
     ⊎_elim (λ (e : status_in r ≡ InputFault). inr (inr (inl e))) (λ (e : status_in r ≡ SinkFault). inr (inr (inr e)))
-    (cut_status fault r says)
+    (IsCutShort-status fault r says)
 
 -- ---- a row a command
 
@@ -121,26 +122,28 @@ on_the_way status (inl e) = inl e
 on_the_way status (inr e) = inr (inr e)
 
 -- by what is asked of an image
-pub failed_of : (command : ImageCommand) (status : Status) → FailsAlways status → EndsOf command status
-failed_of images.Check status fails = tt
-failed_of images.Dis status fails = inr fails
-failed_of images.Debug status fails = inr (on_the_way status fails)
+pub EndsOf-fails_always : (command : ImageCommand) (status : Status) → FailsAlways status → EndsOf command status
+EndsOf-fails_always images.Check status fails = tt
+EndsOf-fails_always images.Dis status fails = inr fails
+EndsOf-fails_always images.Debug status fails = inr (on_the_way status fails)
 
 -- a command that failed so
-pub failed_ends : (command : Command) (status : Status) (s : ShelfChange) → FailsAlways status
+pub EndsAsRun-fails_always : (command : Command) (status : Status) (s : ShelfChange) → FailsAlways status
     → EndsAsRun command status s
-failed_ends (of_image command name) status s fails = λ image good read. failed_of command status fails
-failed_ends (run options name) status s fails = λ image good has read. inr (on_the_way status fails)
-failed_ends (imprecise options choices force name) status s fails = λ plan accepted read. inr (on_the_way status fails)
-failed_ends (make command name made) status s fails = tt
-failed_ends (link entry made names) status s fails = tt
-failed_ends (replay name journal) status s fails = tt
-failed_ends (record_run options choices force name made) status s fails = tt
-failed_ends (trial blocks) status s fails = tt
+EndsAsRun-fails_always (of_image command name) status s fails =
+    λ image good read. EndsOf-fails_always command status fails
+EndsAsRun-fails_always (run options name) status s fails = λ image good has read. inr (on_the_way status fails)
+EndsAsRun-fails_always (imprecise options choices force name) status s fails =
+    λ plan accepted read. inr (on_the_way status fails)
+EndsAsRun-fails_always (make command name made) status s fails = tt
+EndsAsRun-fails_always (link entry made names) status s fails = tt
+EndsAsRun-fails_always (replay name journal) status s fails = tt
+EndsAsRun-fails_always (record_run options choices force name made) status s fails = tt
+EndsAsRun-fails_always (trial blocks) status s fails = tt
 
 -- and a sink that fails last leaves what was decided so
-pub delivered_ends : (command : Command) (status decided : Status) (s : ShelfChange)
+pub EndsAsRun-sink_fault_last : (command : Command) (status decided : Status) (s : ShelfChange)
     → (status ≡ SinkFault) ⊎ (status ≡ decided)
     → EndsAsRun command decided s → EndsAsRun command status s
-delivered_ends command status decided s (inl e) h = failed_ends command status s (inr e)
-delivered_ends command status decided s (inr e) h = subst (λ (x : Status). EndsAsRun command x s) (sym e) h
+EndsAsRun-sink_fault_last command status decided s (inl e) h = EndsAsRun-fails_always command status s (inr e)
+EndsAsRun-sink_fault_last command status decided s (inr e) h = subst (λ (x : Status). EndsAsRun command x s) (sym e) h

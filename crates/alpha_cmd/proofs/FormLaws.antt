@@ -34,15 +34,15 @@ pub record IsLawfulForm (f : Form) (there : World → Type 0) (w : World) : Type
 
 -- ---- answers
 
-pub one_answer : (f : Form) (there : World → Type 0) (w : World) → IsLawfulForm f there w → (a b : Answer)
+pub AnswerBy-unique : (f : Form) (there : World → Type 0) (w : World) → IsLawfulForm f there w → (a b : Answer)
     → IsToldFor f.needs w → AnswerBy f.steps w a
     → AnswerBy f.steps w b → a ≡ b
-one_answer f there w law a b told h g =
+AnswerBy-unique f there w law a b told h g =
     h.2 ∙ (ap (answer_of w.input) (law.stages.single told h.0 g.0 h.1 g.1) ∙ sym g.2)
 
-pub some_answer : (f : Form) (there : World → Type 0) (w : World) → IsLawfulForm f there w → IsSome w.files
+pub AnswerBy-exists : (f : Form) (there : World → Type 0) (w : World) → IsLawfulForm f there w → IsSome w.files
     → HaveBytes w.files → (a : Answer) × AnswerBy f.steps w a
-some_answer f there w law told whole =
+AnswerBy-exists f there w law told whole =
     let o = law.stages.some (told, whole) in
     (answer_of w.input o.0, (o.0, o.1, refl))
 
@@ -50,11 +50,11 @@ refusal_plain : (there : Type 0) (s : Status) → IsRefusal there s → IsPlain 
 refusal_plain there s (inl h) = inl (ap is_failed h)
 refusal_plain there s (inr h) = inr h
 
-pub plain_answer : (f : Form) (there : World → Type 0) (w : World) → IsLawfulForm f there w → (a : Answer)
+pub AnswerBy-IsPlain : (f : Form) (there : World → Type 0) (w : World) → IsLawfulForm f there w → (a : Answer)
     → AnswerBy f.steps w a → IsPlain (there w) a.status
-plain_answer f there w law a (continues b, h, e) =
+AnswerBy-IsPlain f there w law a (continues b, h, e) =
     subst (λ (x : Answer). IsPlain (there w) x.status) (sym e) (law.ends b h)
-plain_answer f there w law a (stops s line, h, e) =
+AnswerBy-IsPlain f there w law a (stops s line, h, e) =
     subst (λ (x : Answer). IsPlain (there w) x.status) (sym e) (refusal_plain (there w) s (law.stages.plain s line h))
 
 -- an answer of a class that no refusal has is one that the stages went on with
@@ -70,14 +70,14 @@ answer_goes f there w law c fine calm a (stops s line, h, e) is = absurd (by (la
     by (inr r) = calm (sym is ∙ (ap (λ (x : Answer). class_of x.status) e ∙ ap class_of r.0))
 
 -- as is one that is done
-pub done_goes : (f : Form) (there : World → Type 0) (w : World) → IsLawfulForm f there w → (a : Answer)
+pub AnswerBy-done : (f : Form) (there : World → Type 0) (w : World) → IsLawfulForm f there w → (a : Answer)
     → AnswerBy f.steps w a → class_of a.status ≡ done → f.steps w (continues a)
-done_goes f there w law = answer_goes f there w law done (λ e. cc) (λ e. cc)
+AnswerBy-done f there w law = answer_goes f there w law done (λ e. cc) (λ e. cc)
 
 -- and one of a program's end, so that its status is one of the command's end
-pub ended_ends : (f : Form) (there : World → Type 0) (w : World) → IsLawfulForm f there w → (a : Answer)
+pub AnswerBy-ended : (f : Form) (there : World → Type 0) (w : World) → IsLawfulForm f there w → (a : Answer)
     → AnswerBy f.steps w a → class_of a.status ≡ ended → f.kind.ends a.status
-ended_ends f there w law a h is = law.status a (answer_goes f there w law ended (λ e. cc) (λ e. cc) a h is)
+AnswerBy-ended f there w law a h is = law.status a (answer_goes f there w law ended (λ e. cc) (λ e. cc) a h is)
 
 -- ---- a command of an image
 

@@ -18,9 +18,10 @@ SameOf options plan m =
     SameFree options.steps (program_by options plan.image) (start (program_by options plan.image)) m.steps m.at
 
 -- a run by coming words of a program that can be restarted is one of the sequential machine
-pub made_same : (options : RunOptions) (plan : Plan) → IsRestartable plan.image → (m : MadeByReads options plan)
+pub MadeByReads-SameOf : (options : RunOptions) (plan : Plan) → IsRestartable plan.image
+    → (m : MadeByReads options plan)
     → SameOf options plan m
-made_same options plan restarts m =
+MadeByReads-SameOf options plan restarts m =
     let g = program_by options plan.image in
     same_free options.steps g (start g) m.steps m.at m.runs (restarts options.complete m.steps m.at m.runs) m.used
 
@@ -55,7 +56,7 @@ reads_show options true plan m alone = record {
   has = record { end = refl; lost = refl; output = refl; notes = refl; drawn = refl };
 }
 reads_show options false plan m alone =
-    let q = made_same options plan (alone refl) m in
+    let q = MadeByReads-SameOf options plan (alone refl) m in
     let t = shown_by options.watch (seen m.steps) q.last in
     record {
       shown = with_drawn t m.drawn;

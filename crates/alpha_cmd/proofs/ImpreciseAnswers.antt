@@ -7,7 +7,7 @@ use Rattle.alpha_shadow.specs.Broken.{IsAccepted}
 use Rattle.alpha_request.specs.Command.{run}
 use Rattle.alpha_request.specs.declared.options.RunOptions.{RunOptions}
 use Rattle.alpha_request.specs.Origin.{Origin}
-use Rattle.alpha_restart.proofs.Agreement.{accepted_restarts}
+use Rattle.alpha_restart.proofs.Agreement.{IsAccepted-IsRestartable}
 use Rattle.alpha_seq.specs.declared.end.End.{End}
 use Rattle.alpha_seq.specs.declared.end.End.TheVariants as ends
 use Rattle.alpha_seq.specs.State.{Program}
@@ -31,13 +31,13 @@ use Rattle.alpha_cmd.specs.Commands.Imprecise as wilds
 use Rattle.alpha_cmd.specs.Commands.Imprecise.{Plan, plan_by, PlanOf, Passes, with_drawn, run_by, shown_imprecise}
 use Rattle.alpha_cmd.specs.Commands.Imprecise.{MayShowImprecise, answer_imprecise, RunsImprecise}
 use Rattle.alpha_cmd.specs.AlikeByAnswers.{undrawn, IsChecked, HasWords}
-use Rattle.alpha_cmd.proofs.FormLaws.{done_goes, form_of_file}
+use Rattle.alpha_cmd.proofs.FormLaws.{AnswerBy-done, form_of_file}
 use Rattle.alpha_cmd.proofs.OfImage.Check.{check_form-lawful}
 use Rattle.alpha_cmd.proofs.Commands.Run.{shown_answer}
 use Rattle.alpha_cmd.proofs.Commands.Imprecise.{Planned-lawful, accepted-Passes, some_shown, imprecise_answer-some}
 use Rattle.alpha_cmd.proofs.Lawful.{Then-found}
 use Rattle.alpha_cmd.proofs.AttemptedBy.{AnswerOf-single}
-use Rattle.alpha_cmd.proofs.HasShown.{made_same, same_may}
+use Rattle.alpha_cmd.proofs.HasShown.{MadeByReads-SameOf, same_may}
 
 -- ---- an accepted file
 
@@ -47,15 +47,16 @@ pub record IsAcceptedFile (file : List ℕ) (files : Files) : Type 0 where
   pub found : ImageOf files file (continues image)
   pub accepted : IsAccepted image.words
 
-pub checked_good : (file : List ℕ) (w : World) → IsChecked file w → IsAcceptedFile file w.files
-checked_good file w h =
+pub IsChecked-IsAcceptedFile : (file : List ℕ) (w : World) → IsChecked file w → IsAcceptedFile file w.files
+IsChecked-IsAcceptedFile file w h =
     let (image, found, (same, judged, is)) =
-    done_goes (form_of_file Checks reads file) (IsThere file) w (check_form-lawful file w) h.answer h.is
+    AnswerBy-done (form_of_file Checks reads file) (IsThere file) w (check_form-lawful file w) h.answer h.is
     (ap class_of h.done) in
     record { image = image; found = found; accepted = judged.0 }
 
-pub good_restarts : (file : List ℕ) (files : Files) (h : IsAcceptedFile file files) → IsRestartable h.image
-good_restarts file files h = accepted_restarts h.image h.found.2.0 h.accepted
+pub IsAcceptedFile-IsRestartable : (file : List ℕ) (files : Files) (h : IsAcceptedFile file files)
+    → IsRestartable h.image
+IsAcceptedFile-IsRestartable file files h = IsAccepted-IsRestartable h.image h.found.2.0 h.accepted
 
 -- ---- the two runs
 
@@ -99,7 +100,7 @@ is_shown : (options : RunOptions) (force : Bool) (input : Option (List ℕ)) (pl
     → IsRestartable plan.image
     → MayShowImprecise options force input plan t → IsShown options input plan.image t
 is_shown options true None plan t restarts (m, is) =
-    let q = made_same options plan restarts m in
+    let q = MadeByReads-SameOf options plan restarts m in
     let s = shown_by options.watch (seen m.steps) q.last in
     record {
       shown = s;
@@ -132,17 +133,19 @@ is_shown options force (Some input) plan t restarts is =
 -- ---- the answers
 
 -- each answer of the imprecise run is one of the sequential run, but for the number
-pub run_answer : (options : RunOptions) (choices : Origin) (force : Bool) (file : List ℕ) (w : World) (b : Answer)
+pub AnswerBy-imprecise_as_run : (options : RunOptions) (choices : Origin) (force : Bool) (file : List ℕ) (w : World)
+    (b : Answer)
     → IsSome w.files → HasWords w.files choices → IsChecked file w
     → AnswerBy (wilds.steps options choices force file) w b → AnswerBy (runs.steps options file) w (undrawn b)
-run_answer options choices force file w b files words checked (o, h, is) =
-    by (checked_good file w checked) o is h
+AnswerBy-imprecise_as_run options choices force file w b files words checked (o, h, is) =
+    by (IsChecked-IsAcceptedFile file w checked) o is h
   where
     shows : (good : IsAcceptedFile file w.files) (o : Outcome Answer) → b ≡ answer_of w.input o
         → RunsImprecise options force w.input (plan_by good.image words.0) o
         → AnswerBy (runs.steps options file) w (undrawn b)
     shows good (continues a) is (t, may, wild) =
-        let s = is_shown options force w.input (plan_by good.image words.0) t (good_restarts file w.files good) may in
+        let s = is_shown options force w.input (plan_by good.image words.0) t
+        (IsAcceptedFile-IsRestartable file w.files good) may in
         subst (AnswerBy (runs.steps options file) w) (sym (ap undrawn (is ∙ wild) ∙ s.same))
         (shown_answer w options file good.image s.shown good.found s.may)
     shows good (stops status line) is never = absurd never
@@ -160,11 +163,11 @@ run_answer options choices force file w b files words checked (o, h, is) =
         (plan, found, accepted-Passes force plan (λ judges. good.accepted)) o h)
 
 -- it has an answer, whatever the input tells
-pub some_checked_run : (options : RunOptions) (choices : Origin) (force : Bool) (file : List ℕ) (w : World)
+pub AnswerBy-imprecise_exists : (options : RunOptions) (choices : Origin) (force : Bool) (file : List ℕ) (w : World)
     → HasWords w.files choices → IsChecked file w
     → (b : Answer) × AnswerBy (wilds.steps options choices force file) w b
-some_checked_run options choices force file w words checked =
-    let good = checked_good file w checked in
+AnswerBy-imprecise_exists options choices force file w words checked =
+    let good = IsChecked-IsAcceptedFile file w checked in
     let plan = plan_by good.image words.0 in
     let (s, may) = some_shown options force w.input plan in (
       answer_imprecise w.input s,
@@ -173,10 +176,11 @@ some_checked_run options choices force file w words checked =
     )
 
 -- the answers are the same but for the number, where the input is told
-pub answers-equal : (options : RunOptions) (choices : Origin) (force : Bool) (file : List ℕ) (w : World) (a b : Answer)
+pub AnswerBy-imprecise_undrawn : (options : RunOptions) (choices : Origin) (force : Bool) (file : List ℕ) (w : World)
+    (a b : Answer)
     → IsSome w.files → IsSome w.input
     → HasWords w.files choices → IsChecked file w → AnswerBy (runs.steps options file) w a
     → AnswerBy (wilds.steps options choices force file) w b → undrawn b ≡ a
-answers-equal options choices force file w a b files input words checked is other =
+AnswerBy-imprecise_undrawn options choices force file w a b files input words checked is other =
     AnswerOf-single (run options file) w (undrawn b) a (files, input)
-    (run_answer options choices force file w b files words checked other) is
+    (AnswerBy-imprecise_as_run options choices force file w b files words checked other) is

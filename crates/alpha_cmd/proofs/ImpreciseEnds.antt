@@ -6,23 +6,24 @@ use Rattle.alpha_seq.specs.State.{Went}
 use Rattle.alpha_imprecise.specs.StepResult.{ImpreciseEvent, Precisely}
 use Rattle.alpha_imprecise.specs.ChosenRun.{end_of_imprecise_event, lost_trap}
 use Rattle.alpha_imprecise.specs.Restart.{IsRestartable}
-use Rattle.alpha_restart.proofs.Agreement.{accepted_restarts}
+use Rattle.alpha_restart.proofs.Agreement.{IsAccepted-IsRestartable}
 use Rattle.alpha_run.specs.ImpreciseRan.{ended_as}
 use Rattle.alpha_cmd.specs.Drawn.{but_drawn}
 use Rattle.alpha_cmd.specs.RunAnswer.{run_status, run_line}
 use Rattle.alpha_cmd.specs.Commands.Imprecise.{Plan, MayRun, imprecise_status, imprecise_line, answer_status}
 use Rattle.alpha_cmd.specs.Commands.Imprecise.{answer_line}
 
-pub status_by : (h : ImpreciseEvent) (n : ℕ)
+pub answer_status-ended_as : (h : ImpreciseEvent) (n : ℕ)
     → answer_status (ended_as h) n ≡ imprecise_status (end_of_imprecise_event h) (lost_trap h) n
-status_by (Precisely Went) n = refl
-status_by (Precisely event) n = refl
-status_by moment n = refl
+answer_status-ended_as (Precisely Went) n = refl
+answer_status-ended_as (Precisely event) n = refl
+answer_status-ended_as moment n = refl
 
-pub line_by : (h : ImpreciseEvent) → answer_line (ended_as h) ≡ imprecise_line (end_of_imprecise_event h) (lost_trap h)
-line_by (Precisely Went) = refl
-line_by (Precisely event) = refl
-line_by moment = refl
+pub answer_line-ended_as : (h : ImpreciseEvent)
+    → answer_line (ended_as h) ≡ imprecise_line (end_of_imprecise_event h) (lost_trap h)
+answer_line-ended_as (Precisely Went) = refl
+answer_line-ended_as (Precisely event) = refl
+answer_line-ended_as moment = refl
 
 -- where no trap was lost they are those of the sequential run, but for the number of words
 pub undrawn_status : (end : Option End) (n : ℕ) → but_drawn (imprecise_status end None n) ≡ run_status end
@@ -30,10 +31,10 @@ undrawn_status None n = refl
 undrawn_status (Some (ends.Exit v)) n = refl
 undrawn_status (Some end) n = refl
 
-pub same_line : (end : Option End) → imprecise_line end None ≡ run_line end
-same_line None = refl
-same_line (Some end) = refl
+pub imprecise_line-run_line : (end : Option End) → imprecise_line end None ≡ run_line end
+imprecise_line-run_line None = refl
+imprecise_line-run_line (Some end) = refl
 
 -- whatever words are drawn, its runs are those of the sequential machine
 pub may_alone : (force : Bool) (plan : Plan) → MayRun force plan → force ≡ false → IsRestartable plan.image
-may_alone force plan (fine, good) judges = accepted_restarts plan.image fine (good judges)
+may_alone force plan (fine, good) judges = IsAccepted-IsRestartable plan.image fine (good judges)

@@ -27,12 +27,13 @@ use Rattle.alpha_imprecise.specs.Fronts.{IsFrontBy}
 use Rattle.alpha_imprecise.specs.ImpreciseState.{ImpreciseState, IsFresh, begun_at, step_result_of, trap_in, waited_in}
 use Rattle.alpha_imprecise.proofs.WordDraws.{words_drawn, draws_most}
 use Rattle.alpha_imprecise.proofs.DrawnRuns.{chosen_run_with}
-use Rattle.alpha_imprecise.proofs.ExactDraws.{told_words, drawn_exactly}
-use Rattle.alpha_imprecise.proofs.FreshRuns.{step_result_of-IsFresh, begun_fresh, told_starts}
+use Rattle.alpha_imprecise.proofs.ExactDraws.{OracleDraws-first_words, drawn_exactly}
+use Rattle.alpha_imprecise.proofs.FreshRuns.{step_result_of-IsFresh, begun_fresh, OracleDraws-Starts}
 use Rattle.alpha_imprecise.proofs.ShownRuns.{runs_alike}
-use Rattle.alpha_restart.proofs.Agreement.{accepted_restarts}
+use Rattle.alpha_restart.proofs.Agreement.{IsAccepted-IsRestartable}
 use Rattle.alpha_run.specs.ImpreciseRan.{moment_at, ImprecisePrefixRun}
-use Rattle.alpha_run.proofs.ImpreciseShown.{drawn_from_none, WholeRun, used_all, few_drawn, told_from, cut_any, few_cut}
+use Rattle.alpha_run.proofs.ImpreciseShown.{CountsWords-from_zero, WholeRun, used_all, few_drawn, told_from, cut_any}
+use Rattle.alpha_run.proofs.ImpreciseShown.{few_cut}
 use Rattle.alpha_run.proofs.ImpreciseShown.{cut_from}
 use Rattle.alpha_cmd.specs.declared.decision.Decision.{Decision}
 use Rattle.alpha_cmd.specs.declared.devices.Devices.{Devices}
@@ -52,9 +53,10 @@ use Rattle.alpha_cmd.specs.Decision.{answer_in}
 use Rattle.alpha_cmd.specs.CommandEffect.{CommandEffect}
 use Rattle.alpha_cmd.proofs.Commands.Imprecise.{MayShowImprecise-MayLose}
 use Rattle.alpha_cmd.proofs.CutShort.{AttemptPrefixes}
-use Rattle.alpha_cmd.proofs.ImpreciseEnds.{line_by, may_alone, same_line, status_by, undrawn_status}
+use Rattle.alpha_cmd.proofs.ImpreciseEnds.{answer_line-ended_as, may_alone, imprecise_line-run_line}
+use Rattle.alpha_cmd.proofs.ImpreciseEnds.{answer_status-ended_as, undrawn_status}
 use Rattle.alpha_cmd.proofs.StreamedWrites.{streamed_devices, does_whole}
-use Rattle.alpha_cmd.proofs.HasShown.{HasShown, made_same, reads_show}
+use Rattle.alpha_cmd.proofs.HasShown.{HasShown, MadeByReads-SameOf, reads_show}
 
 module _ (options : RunOptions) (m : ImpreciseState) (ahead : ℕ → ℕ)
     (same_completion : m.machine.completion ≡ options.complete)
@@ -81,7 +83,7 @@ module _ (options : RunOptions) (m : ImpreciseState) (ahead : ℕ → ℕ)
   by_reads last rest new before after d out notes w tells =
       let steps = w.ran.steps in
       let at = step_result_of new w.last_event in
-      let words = told_words before after ahead w.ran.words tells w.ran.drew in
+      let words = OracleDraws-first_words before after ahead w.ran.words tells w.ran.drew in
       record {
         steps = steps;
         at = at;
@@ -201,7 +203,7 @@ module _ (options : RunOptions) (m : ImpreciseState) (ahead : ℕ → ℕ)
         (by_reads last rest new before after d out notes w tells) alone in
         record { shown = s.shown; may = s.may; has = s.has; left = tt }
     may_show force (Some bytes) is alone =
-        let s = told_starts before after ahead w.ran.words (most_words options.steps) tells w.ran.drew
+        let s = OracleDraws-Starts before after ahead w.ran.words (most_words options.steps) tells w.ran.drew
         (few_drawn last options.steps rest options.watch m new before after d out notes w fresh.nothing_pending) in
         let fed = w.ran.fed.told bytes is in
         let there =
@@ -228,7 +230,8 @@ module _ (options : RunOptions) (m : ImpreciseState) (ahead : ℕ → ℕ)
         → (force ≡ false → IsRestartable m.machine.image) → ShowsOf force drawn
     ran_shows_of force drawn none now low alone =
         let may = may_show force d.old.left refl alone in
-        let all = drawn_from_none before.count after.count drawn (length w.ran.words) none now w.ran.drew.counted in
+        let all =
+        CountsWords-from_zero before.count after.count drawn (length w.ran.words) none now w.ran.drew.counted in
         let many : drawn ≡ may.shown.drawn % 2 ^ 64 = omega (arith, all, low, may.has.drawn) in
         record {
           shows = record {
@@ -236,11 +239,11 @@ module _ (options : RunOptions) (m : ImpreciseState) (ahead : ℕ → ℕ)
             may = may.may;
             status_is =
                 ap (λ (o : Option SeenEvent). answer_status o drawn) w.last_is
-                ∙ (status_by w.last_event drawn
+                ∙ (answer_status-ended_as w.last_event drawn
                 ∙ λ i. imprecise_status (may.has.end i) (may.has.lost i) (many i));
             line_is =
                 ap answer_line w.last_is
-                ∙ (line_by w.last_event ∙ λ i. imprecise_line (may.has.end i) (may.has.lost i));
+                ∙ (answer_line-ended_as w.last_event ∙ λ i. imprecise_line (may.has.end i) (may.has.lost i));
             bytes = subst (Puts out) may.has.output w.ran.wrote;
             lines = subst (Puts notes) may.has.notes w.ran.noted;
             left = may.left;
@@ -255,15 +258,15 @@ module _ (options : RunOptions) (m : ImpreciseState) (ahead : ℕ → ℕ)
         → DecidesRun options m.machine.image decision d out notes
     unfolding by_reads
     imprecise-DecidesAsked drawn restarts decision says =
-        let q = made_same options (plan_by m.machine.image ahead) restarts
+        let q = MadeByReads-SameOf options (plan_by m.machine.image ahead) restarts
         (by_reads last rest new before after d out notes w tells) in
         let end = end_of q.last.event in
         let e = says None in
         let status : answer_status last drawn ≡ imprecise_status end None drawn =
         ap (λ (o : Option SeenEvent). answer_status o drawn) w.last_is
-        ∙ (status_by w.last_event drawn ∙ λ i. imprecise_status (q.end i) (q.lost i) drawn) in
+        ∙ (answer_status-ended_as w.last_event drawn ∙ λ i. imprecise_status (q.end i) (q.lost i) drawn) in
         let line : answer_line last ≡ imprecise_line end None =
-        ap answer_line w.last_is ∙ (line_by w.last_event ∙ λ i. imprecise_line (q.end i) (q.lost i)) in
+        ap answer_line w.last_is ∙ (answer_line-ended_as w.last_event ∙ λ i. imprecise_line (q.end i) (q.lost i)) in
         record {
           ran = record {
             run = record { events = seen w.ran.steps; at = q.last; runs = q.runs; made = q.made };
@@ -271,7 +274,7 @@ module _ (options : RunOptions) (m : ImpreciseState) (ahead : ℕ → ℕ)
           };
           status_is = ap (λ (a : Answer). but_drawn a.status) e ∙ (ap but_drawn status ∙ undrawn_status end drawn);
           no_more = ap (λ (a : Answer). a.output) e;
-          line_is = ap (λ (a : Answer). a.line) e ∙ (line ∙ same_line end);
+          line_is = ap (λ (a : Answer). a.line) e ∙ (line ∙ imprecise_line-run_line end);
           put = w.ran.wrote;
           noted = w.ran.noted;
         }
@@ -288,16 +291,17 @@ module _ (options : RunOptions) (m : ImpreciseState) (ahead : ℕ → ℕ)
         let end = end_of_imprecise_event w.last_event in
         let lost = lost_trap w.last_event in
         let e = says None in
-        let all = drawn_from_none before.count after.count drawn (length w.ran.words) none now w.ran.drew.counted in
+        let all =
+        CountsWords-from_zero before.count after.count drawn (length w.ran.words) none now w.ran.drew.counted in
         let many : drawn ≡ length w.ran.words % 2 ^ 64 = omega (arith, all, low) in
         record {
           ran = record { run = made; answers = w.ran.fed.answers };
           status_is =
               ap (λ (a : Answer). a.status) e
               ∙ (ap (λ (o : Option SeenEvent). answer_status o drawn) w.last_is
-              ∙ (status_by w.last_event drawn ∙ ap (imprecise_status end lost) many));
+              ∙ (answer_status-ended_as w.last_event drawn ∙ ap (imprecise_status end lost) many));
           no_more = ap (λ (a : Answer). a.output) e;
-          line_is = ap (λ (a : Answer). a.line) e ∙ (ap answer_line w.last_is ∙ line_by w.last_event);
+          line_is = ap (λ (a : Answer). a.line) e ∙ (ap answer_line w.last_is ∙ answer_line-ended_as w.last_event);
           put = w.ran.wrote;
           noted = w.ran.noted;
         }
@@ -314,7 +318,7 @@ module _ (options : RunOptions) (m : ImpreciseState) (ahead : ℕ → ℕ)
     )
     made_by_words true drawn none now low may decision says = (
       seeded_made drawn none now low decision says,
-      λ accepted. imprecise-DecidesAsked drawn (accepted_restarts m.machine.image may.0 accepted) decision says,
+      λ accepted. imprecise-DecidesAsked drawn (IsAccepted-IsRestartable m.machine.image may.0 accepted) decision says,
     )
 
     pub ran_shows : (force : Bool) (drawn : ℕ) → before.count ≡ Some 0 → after.count ≡ Some drawn → drawn < 2 ^ 64
@@ -338,7 +342,7 @@ module _ (options : RunOptions) (m : ImpreciseState) (ahead : ℕ → ℕ)
   unfolding front_reads
   cut_begins force fault before after d out notes cut tells alone None is =
       let words = cut.words ++ cut.label.words in
-      let s = told_starts before after ahead words (most_words options.steps) tells cut.drew
+      let s = OracleDraws-Starts before after ahead words (most_words options.steps) tells cut.drew
       (few_cut fault options.steps options.watch m before after d out notes cut fresh.nothing_pending) in
       let front = cut_any fault options.steps options.watch m before after d out notes cut s.coming in
       let may = reads_show options force (plan_by m.machine.image ahead)
@@ -351,7 +355,7 @@ module _ (options : RunOptions) (m : ImpreciseState) (ahead : ℕ → ℕ)
       }
   cut_begins force fault before after d out notes cut tells alone (Some bytes) is =
       let words = cut.words ++ cut.label.words in
-      let s = told_starts before after ahead words (most_words options.steps) tells cut.drew
+      let s = OracleDraws-Starts before after ahead words (most_words options.steps) tells cut.drew
       (few_cut fault options.steps options.watch m before after d out notes cut fresh.nothing_pending) in
       let part = cut_from fault options.steps options.watch m before after d out notes cut bytes s.coming is in
       let k = chosen_run (program_of m.machine) (begun_at m bytes (words ++ s.coming)) options.steps in

@@ -25,7 +25,7 @@ use Rattle.alpha_cmd.specs.ReadsNothing.{ReadsNothing, answer_unread}
 use Rattle.alpha_cmd.proofs.Lawful.{Then-found}
 use Rattle.alpha_cmd.proofs.StageLaws.{ImageOf-lawful}
 use Rattle.alpha_cmd.proofs.Commands.Run.{some_shown, shown_answer}
-use Rattle.alpha_cmd.proofs.ImpreciseAnswers.{run_answer, some_checked_run}
+use Rattle.alpha_cmd.proofs.ImpreciseAnswers.{AnswerBy-imprecise_as_run, AnswerBy-imprecise_exists}
 
 -- ---- runs that have made their steps
 
@@ -95,10 +95,11 @@ one_shown options image (Some bytes) s unread is =
     ap (answer_shown (Some bytes)) is
     ∙ ap (λ (r : Run). answer_shown (Some bytes) (shown options.watch r)) all
 
-pub one_unread : (options : RunOptions) (file : List ℕ) (image : Parts) (w : World) (a : Answer) → IsSome w.files
+pub answer_unread-unique : (options : RunOptions) (file : List ℕ) (image : Parts) (w : World) (a : Answer)
+    → IsSome w.files
     → ImageOf w.files file (continues image) → ReadsNothing options image
     → AnswerBy (runs.steps options file) w a → a ≡ answer_unread options image w.input
-one_unread options file image w a told found unread (o, h, is) =
+answer_unread-unique options file image w a told found unread (o, h, is) =
     by o is
     (Then-found (ImageOf w.files file) (RunsBy options w.input)
     ((ImageOf-lawful (IsSome w.files) ⊥ ⊥ w.files file (λ e. e) (λ no. absurd no) (λ no. absurd no)).single told) image
@@ -110,32 +111,32 @@ one_unread options file image w a told found unread (o, h, is) =
     by (stops status line) is never = absurd never
 
 -- and it is one
-pub some_unread : (options : RunOptions) (file : List ℕ) (image : Parts) (w : World)
+pub answer_unread-exists : (options : RunOptions) (file : List ℕ) (image : Parts) (w : World)
     → ImageOf w.files file (continues image)
     → ReadsNothing options image
     → AnswerBy (runs.steps options file) w (answer_unread options image w.input)
-some_unread options file image w found unread =
+answer_unread-exists options file image w found unread =
     let (s, may) = some_shown options w.input image in
     subst (AnswerBy (runs.steps options file) w) (one_shown options image w.input s unread may)
     (shown_answer w options file image s found may)
 
 -- and of a run of the imprecise machine, by whatever words
-pub unread_alike : (options : RunOptions) (choices : Origin)
+pub answer_unread-imprecise : (options : RunOptions) (choices : Origin)
     (force : Bool) (file : List ℕ) (image : Parts) (w : World) (b : Answer)
     → IsSome w.files → ImageOf w.files file (continues image)
     → ReadsNothing options image → HasWords w.files choices → IsChecked file w
     → AnswerBy (wilds.steps options choices force file) w b → undrawn b ≡ answer_unread options image w.input
-unread_alike options choices force file image w b told found unread words checked is =
-    one_unread options file image w (undrawn b) told found unread
-    (run_answer options choices force file w b told words checked is)
+answer_unread-imprecise options choices force file image w b told found unread words checked is =
+    answer_unread-unique options file image w (undrawn b) told found unread
+    (AnswerBy-imprecise_as_run options choices force file w b told words checked is)
 
 -- which has such an answer
-pub some_unread_alike : (options : RunOptions) (choices : Origin)
+pub answer_unread-imprecise_exists : (options : RunOptions) (choices : Origin)
     (force : Bool) (file : List ℕ) (image : Parts) (w : World)
     → IsSome w.files → ImageOf w.files file (continues image)
     → ReadsNothing options image → HasWords w.files choices → IsChecked file w
     → (b : Answer) × AnswerBy (wilds.steps options choices force file) w b
     × (undrawn b ≡ answer_unread options image w.input)
-some_unread_alike options choices force file image w told found unread words checked =
-    let (b, is) = some_checked_run options choices force file w words checked in
-    (b, is, unread_alike options choices force file image w b told found unread words checked is)
+answer_unread-imprecise_exists options choices force file image w told found unread words checked =
+    let (b, is) = AnswerBy-imprecise_exists options choices force file w words checked in
+    (b, is, answer_unread-imprecise options choices force file image w b told found unread words checked is)

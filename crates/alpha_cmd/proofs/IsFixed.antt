@@ -4,9 +4,9 @@ use Rattle.alpha_io.specs.Files.{HasFile}
 use Rattle.alpha_io.specs.ShelfChange.{ShelfChange}
 use Rattle.alpha_request.specs.declared.request.SourceCommand.TheVariants.{Fix}
 use Rattle.alpha_request.specs.Command.{fix}
-use Rattle.alpha_restart.proofs.Agreement.{accepted_restarts}
+use Rattle.alpha_restart.proofs.Agreement.{IsAccepted-IsRestartable}
 use Rattle.alpha_fix.specs.Fix.{IsFixedSource}
-use Rattle.alpha_fix.proofs.FixedSources.{is_accepted, is_needed, is_unchanged}
+use Rattle.alpha_fix.proofs.FixedSources.{IsFixedSource-accepted, IsFixedSource-needed, IsFixedSource-unchanged}
 use Rattle.alpha_cmd.specs.declared.status.Status.TheVariants.{Done}
 use Rattle.alpha_cmd.specs.Status.{class_of}
 use Rattle.alpha_cmd.specs.Asks.{AsksFor}
@@ -16,17 +16,17 @@ use Rattle.alpha_cmd.specs.SourceCommands.{form, there}
 use Rattle.alpha_cmd.specs.Fixed.{IsFixed}
 use Rattle.alpha_cmd.specs.Kept.{HasKept}
 use Rattle.alpha_cmd.specs.Tried.{AttemptedBy}
-use Rattle.alpha_cmd.proofs.FormLaws.{done_goes}
+use Rattle.alpha_cmd.proofs.FormLaws.{AnswerBy-done}
 use Rattle.alpha_cmd.proofs.SourceCommands.{source_form-lawful}
-use Rattle.alpha_cmd.proofs.AttemptedBy.{done_tried}
+use Rattle.alpha_cmd.proofs.AttemptedBy.{AttemptedBy-done}
 
 fixed_by : (source text : List ℕ) → IsFixedSource source text → IsFixed source text
 fixed_by source text f = record {
   is = f;
-  accepted = is_accepted source text f;
-  restarts = accepted_restarts f.fixed f.has_image.good (is_accepted source text f);
-  needed = is_needed source text f;
-  unchanged = is_unchanged source text f;
+  accepted = IsFixedSource-accepted source text f;
+  restarts = IsAccepted-IsRestartable f.fixed f.has_image.good (IsFixedSource-accepted source text f);
+  needed = IsFixedSource-needed source text f;
+  unchanged = IsFixedSource-unchanged source text f;
 }
 
 pub tried_fixed : (shelf input : Type 0) (words : List (List ℕ))
@@ -35,9 +35,9 @@ pub tried_fixed : (shelf input : Type 0) (words : List (List ℕ))
     → AttemptedBy shelf input words w t → t.status ≡ Done 0 → HasKept t.kept s
     → (source text : List ℕ) × HasFile w.files file source × HasFile s.new out text × IsFixed source text
 tried_fixed shelf input words file out w t s asks tried e kept =
-    let is = done_tried shelf input words (fix file out) w t asks tried e in
+    let is = AttemptedBy-done shelf input words (fix file out) w t asks tried e in
     let (text, made, keeps) =
-    done_goes (form Fix file out) (there Fix file out) w (source_form-lawful Fix file out w) t is (ap class_of e) in
+    AnswerBy-done (form Fix file out) (there Fix file out) w (source_form-lawful Fix file out w) t is (ap class_of e) in
     let (source, read, fixed) = made in
     let has = subst (λ (a : Answer). HasKept a.kept s) keeps.1 kept in
     (source, text, read.0, has.0, fixed_by source text fixed)

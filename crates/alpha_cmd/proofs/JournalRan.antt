@@ -25,11 +25,11 @@ use Rattle.alpha_imprecise.specs.ChosenRun.{end_of_imprecise_event, lost_trap}
 use Rattle.alpha_imprecise.specs.Restart.{IsRestartable}
 use Rattle.alpha_imprecise.specs.Oracle.{Oracle}
 use Rattle.alpha_imprecise.specs.ImpreciseState.{ImpreciseState, IsFresh, step_result_of, waited_in}
-use Rattle.alpha_imprecise.proofs.ExactDraws.{told_words}
-use Rattle.alpha_imprecise.proofs.FreshRuns.{told_starts}
+use Rattle.alpha_imprecise.proofs.ExactDraws.{OracleDraws-first_words}
+use Rattle.alpha_imprecise.proofs.FreshRuns.{OracleDraws-Starts}
 use Rattle.alpha_imprecise.proofs.ImpreciseSequence.{RunsImprecisely-append, units_of_steps-append}
 use Rattle.alpha_run.specs.ImpreciseRan.{moment_at}
-use Rattle.alpha_run.proofs.ImpreciseShown.{drawn_from_none, few_cut, prefix-RunsImprecisely, prefix-Draws}
+use Rattle.alpha_run.proofs.ImpreciseShown.{CountsWords-from_zero, few_cut, prefix-RunsImprecisely, prefix-Draws}
 use Rattle.alpha_run.proofs.ImpreciseShown.{prefix-WritesPrefix, Draws-append}
 use Rattle.alpha_words.specs.declared.Completion.{Completion}
 use Rattle.alpha_replay.specs.Journal.{Parts}
@@ -57,12 +57,12 @@ use Rattle.alpha_cmd.proofs.CutShort.{AttemptPrefixes}
 use Rattle.alpha_cmd.proofs.JournalUnbegun.{unbegun_tried}
 use Rattle.alpha_cmd.proofs.Commands.Record.{HasAnswer, recorded_by, kept_answer, stopped_answer, untold_answer}
 use Rattle.alpha_cmd.proofs.Commands.Record.{some_end}
-use Rattle.alpha_cmd.proofs.JournalStatus.{over_takes}
+use Rattle.alpha_cmd.proofs.JournalStatus.{IsOver-MayTakeBy}
 use Rattle.alpha_cmd.proofs.InputLeft.{untouched_input}
 use Rattle.alpha_cmd.proofs.StreamedWrites.{streamed_devices, does_stream, does_whole}
 use Rattle.alpha_cmd.proofs.AttemptsByForm.{starts_not}
 use Rattle.alpha_cmd.proofs.HasShown.{HasShown}
-use Rattle.alpha_cmd.proofs.ImpreciseEnds.{status_by, line_by}
+use Rattle.alpha_cmd.proofs.ImpreciseEnds.{answer_status-ended_as, answer_line-ended_as}
 use Rattle.alpha_cmd.proofs.ImpreciseRan.{ran_shows_of, BeginsImprecisely, same_program, begun_plan-subst}
 
 module _ (options : RunOptions) (m : ImpreciseState) (ahead : ℕ → ℕ)
@@ -80,7 +80,7 @@ module _ (options : RunOptions) (m : ImpreciseState) (ahead : ℕ → ℕ)
       let n = options.steps in
       let steps = r.ran.steps in
       let at = step_result_of new last in
-      let words = told_words before after ahead r.ran.words tells r.ran.drew in
+      let words = OracleDraws-first_words before after ahead r.ran.words tells r.ran.drew in
       let used : units (program_of m.machine) (moment_at m) steps ≡ r.units = r.ran.used in
       record {
         steps = steps;
@@ -180,7 +180,7 @@ module _ (options : RunOptions) (m : ImpreciseState) (ahead : ℕ → ℕ)
       let end = end_of_imprecise_event r.last_event in
       let lost = lost_trap r.last_event in
       let e = says None in
-      let all = drawn_from_none before.count after.count count words none now r.stops.ran.drew.counted in
+      let all = CountsWords-from_zero before.count after.count count words none now r.stops.ran.drew.counted in
       let many : count ≡ words % 2 ^ 64 = omega (arith, all, low) in
       record {
         accepted = may.1;
@@ -197,9 +197,9 @@ module _ (options : RunOptions) (m : ImpreciseState) (ahead : ℕ → ℕ)
         status_is =
             ap (λ (a : Answer). a.status) e
             ∙ (ap (λ (o : Option SeenEvent). answer_status o count) r.last_is
-            ∙ (status_by r.last_event count ∙ ap (imprecise_status end lost) many));
+            ∙ (answer_status-ended_as r.last_event count ∙ ap (imprecise_status end lost) many));
         no_more = ap (λ (a : Answer). a.output) e;
-        line_is = ap (λ (a : Answer). a.line) e ∙ (ap answer_line r.last_is ∙ line_by r.last_event);
+        line_is = ap (λ (a : Answer). a.line) e ∙ (ap answer_line r.last_is ∙ answer_line-ended_as r.last_event);
         put = r.stops.ran.wrote;
         noted = r.stops.ran.noted;
       }
@@ -297,7 +297,7 @@ module _ (options : RunOptions) (m : ImpreciseState) (ahead : ℕ → ℕ)
       let wait = waited_in m.pending in
       let cut = short.cut in
       let list = cut.words ++ cut.label.words in
-      let s = told_starts before after ahead list (most_words n) tells cut.drew
+      let s = OracleDraws-Starts before after ahead list (most_words n) tells cut.drew
       (few_cut fault n false m before after d out notes cut fresh.nothing_pending) in
       let all = cut.steps ++ cut.step.step.last_event ∷ [] in
       let b = step_result_of cut.intended cut.step.step.last_event in
@@ -391,7 +391,7 @@ module _ (options : RunOptions) (m : ImpreciseState) (ahead : ℕ → ℕ)
         (continues a, inr (record { steps = did.steps; left = did.left; stopped = did.stopped; is = refl }), refl) says
         refl
         refl did.put did.noted did.left_is refl
-        (over_takes force name JournalFull (inl refl)) same rest
+        (IsOver-MayTakeBy force name JournalFull (inl refl)) same rest
 
     -- one without memory, which touched no device
     pub unbegun_does : SaysAlone NoMemory d
@@ -405,6 +405,6 @@ module _ (options : RunOptions) (m : ImpreciseState) (ahead : ℕ → ℕ)
         (sink_change k old.out out) (sink_change n old.notes notes)
         (starts_not _ _ (on options force name (plan_by m.machine.image ahead)) w _ refl)
         (KeepsFiles-refl (h.files old.shelf)) refl rests put noted (says (s.left input)))
-        (over_takes force name d.status (inr (inr (inr (ap (λ (a : Answer). a.status) (says None))))))
+        (IsOver-MayTakeBy force name d.status (inr (inr (inr (ap (λ (a : Answer). a.status) (says None))))))
         (record { later = omega (arith, rests.same); faults_unchanged = λ stays. rests.same })
         (untouched_input (drawn s old.input input) (ap (λ (x : Supply). x.left) rests.left)).0

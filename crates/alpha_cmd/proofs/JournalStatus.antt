@@ -67,23 +67,28 @@ not_full None (Some t) n e = cc
 not_full None None n e = cc
 
 -- a run that wasn't made
-pub over_no_end : (end : Option End) (trap : Option LostTrap) (n : ℕ) (s : Status) → s ≡ imprecise_status end trap n
+pub IsOver-not_imprecise_status : (end : Option End) (trap : Option LostTrap) (n : ℕ) (s : Status)
+    → s ≡ imprecise_status end trap n
     → IsOver s → ⊥
-over_no_end end trap n s e (inl h) = not_full end trap n (sym e ∙ h)
-over_no_end end trap n s e (inr (inl h)) = journal_status-no_end end trap n s e (inr (ap is_fault h))
-over_no_end end trap n s e (inr (inr (inl h))) = journal_status-no_end end trap n s e (inr (ap is_fault h))
-over_no_end end trap n s e (inr (inr (inr h))) = journal_status-no_end end trap n s e (inr (ap is_fault h))
+IsOver-not_imprecise_status end trap n s e (inl h) = not_full end trap n (sym e ∙ h)
+IsOver-not_imprecise_status end trap n s e (inr (inl h)) = journal_status-no_end end trap n s e (inr (ap is_fault h))
+IsOver-not_imprecise_status end trap n s e (inr (inr (inl h))) =
+    journal_status-no_end end trap n s e (inr (ap is_fault h))
+IsOver-not_imprecise_status end trap n s e (inr (inr (inr h))) =
+    journal_status-no_end end trap n s e (inr (ap is_fault h))
 
-pub over_ran : (r : Result Decision Failed) → IsOver (status_in r) → (P : Decision → Type 0)
+pub IsOver-no_imprecise_end : (r : Result Decision Failed) → IsOver (status_in r) → (P : Decision → Type 0)
     → IfOk r (λ d. IsImpreciseEnd true d.status → P d)
-over_ran (Ok d) over P = λ ends. absurd (over_no_end ends.0 ends.1.0 ends.1.1.0 d.status ends.1.1.2 over)
-over_ran (Err failed) over P = tt
+IsOver-no_imprecise_end (Ok d) over P =
+    λ ends. absurd (IsOver-not_imprecise_status ends.0 ends.1.0 ends.1.1.0 d.status ends.1.1.2 over)
+IsOver-no_imprecise_end (Err failed) over P = tt
 
 -- one that wasn't begun
-pub stopped_no_end : (options : RunOptions) (drawn : choices.Origin) (force : Bool) (file out : List ℕ) (w : World)
+pub StopsBy-not_imprecise_status : (options : RunOptions) (drawn : choices.Origin) (force : Bool) (file out : List ℕ)
+    (w : World)
     (shelf : Type 0) (end : Option End) (trap : Option LostTrap) (n : ℕ) (stop : Stop)
     → stop_status stop ≡ imprecise_status end trap n → StopsBy (Planned drawn force file w.files) shelf stop → ⊥
-stopped_no_end options drawn force file out w shelf end trap n stop e (inl h) =
+StopsBy-not_imprecise_status options drawn force file out w shelf end trap n stop e (inl h) =
     journal_status-no_end end trap n (stop_status stop) e
     (refusal
     ((record_form-lawful options drawn force file out w).stages.plain (stop_status stop) (stop_line stop) (inl h)))
@@ -92,18 +97,18 @@ stopped_no_end options drawn force file out w shelf end trap n stop e (inl h) =
         → (class_of (stop_status stop) ≡ refused) ⊎ (is_fault (stop_status stop) ≡ true)
     refusal (inl r) = inl r
     refusal (inr r) = inr (ap is_fault r.0)
-stopped_no_end options drawn force file out w shelf end trap n stop e (inr (inl h)) =
+StopsBy-not_imprecise_status options drawn force file out w shelf end trap n stop e (inr (inl h)) =
     journal_status-no_end end trap n (stop_status stop) e (inr (ap (λ s. is_fault (stop_status s)) h))
-stopped_no_end options drawn force file out w shelf end trap n stop e (inr (inr h)) =
+StopsBy-not_imprecise_status options drawn force file out w shelf end trap n stop e (inr (inr h)) =
     journal_status-no_end end trap n (stop_status stop) e (inr (ap (λ s. is_fault (stop_status s)) h.0))
 
 -- ---- input and files
 
-pub over_takes : (force : Bool) (out : List ℕ) (s : Status) → IsOver s → MayTakeBy (kind force out) s
-over_takes force out s (inl h) = (refl, inl (inr (inl h)))
-over_takes force out s (inr (inl h)) = (refl, inr (inl h))
-over_takes force out s (inr (inr (inl h))) = (refl, inr (inr (inl h)))
-over_takes force out s (inr (inr (inr h))) = (refl, inr (inr (inr (refl, inr h))))
+pub IsOver-MayTakeBy : (force : Bool) (out : List ℕ) (s : Status) → IsOver s → MayTakeBy (kind force out) s
+IsOver-MayTakeBy force out s (inl h) = (refl, inl (inr (inl h)))
+IsOver-MayTakeBy force out s (inr (inl h)) = (refl, inr (inl h))
+IsOver-MayTakeBy force out s (inr (inr (inl h))) = (refl, inr (inr (inl h)))
+IsOver-MayTakeBy force out s (inr (inr (inr h))) = (refl, inr (inr (inr (refl, inr h))))
 
 module _ (options : RunOptions) (force : Bool) (out : List ℕ) (input : Option (List ℕ)) (plan : Plan) (p : Parts)
     (d r : Decision) (left : Option (List ℕ)) (o n : SinkChange)

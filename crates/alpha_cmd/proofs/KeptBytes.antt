@@ -18,17 +18,17 @@ use Rattle.alpha_cmd.specs.Ends.{FinalOutcome}
 use Rattle.alpha_cmd.specs.Form.{Kind, SparesBy, making_form}
 use Rattle.alpha_cmd.specs.Keeping.{KeepsAs, AttemptsKeep, Untaken}
 use Rattle.alpha_cmd.specs.Attempts.{IsCutBy, AttemptBy}
-use Rattle.alpha_cmd.proofs.StageLaws.{kept_same}
+use Rattle.alpha_cmd.proofs.StageLaws.{KeepsFiles-equal}
 
 -- ---- files that were read before
 
 -- what is refused then was refused at first
 pub Refuses-kept : (a b : Files) (taken : Bool) → KeepsFiles a b → Refuses b taken → Refuses a taken
-Refuses-kept a b taken p h = subst (λ (f : Files). Refuses f taken) (kept_same a b p) h
+Refuses-kept a b taken p h = subst (λ (f : Files). Refuses f taken) (KeepsFiles-equal a b p) h
 
 -- and the other way round
 pub Refuses-told : (a b : Files) (taken : Bool) → KeepsFiles a b → Refuses a taken → Refuses b taken
-Refuses-told a b taken p h = subst (λ (f : Files). Refuses f taken) (sym (kept_same a b p)) h
+Refuses-told a b taken p h = subst (λ (f : Files). Refuses f taken) (sym (KeepsFiles-equal a b p)) h
 
 pub SparesBy-after : (k : Kind) (status : Status) (a b c : Files) → KeepsFiles a b → SparesBy k status b c
     → SparesBy k status a c

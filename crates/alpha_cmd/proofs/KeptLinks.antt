@@ -5,11 +5,11 @@ use Rattle.alpha_words.specs.declared.Level.TheVariants.{One}
 use Rattle.alpha_io.specs.Files.{Files, HasFile}
 use Rattle.alpha_io.specs.ShelfChange.{ShelfChange}
 use Rattle.alpha_shadow.specs.Broken.{IsAccepted}
-use Rattle.alpha_restart.proofs.Agreement.{accepted_restarts}
+use Rattle.alpha_restart.proofs.Agreement.{IsAccepted-IsRestartable}
 use Rattle.alpha_imprecise.specs.Restart.{IsRestartable}
 use Rattle.alpha_link.specs.Parts.{ModuleParts, IsModule}
 use Rattle.alpha_link.specs.Spelled.{spelling}
-use Rattle.alpha_link.proofs.LinkedCode.{IsGood, image_known, linked_accepted}
+use Rattle.alpha_link.proofs.LinkedCode.{IsGood, AreKnownWords-code_words, linked_accepted}
 use Rattle.alpha_request.specs.Command.{link}
 use Rattle.alpha_cmd.specs.declared.status.Status.TheVariants.{Done}
 use Rattle.alpha_cmd.specs.Answer.{Answer}
@@ -19,12 +19,12 @@ use Rattle.alpha_cmd.specs.Commands.Link.{form, there, Spell, HasAccepted, Keeps
 use Rattle.alpha_cmd.specs.Kept.{Kept, HasKept}
 use Rattle.alpha_cmd.specs.Status.{class_of}
 use Rattle.alpha_cmd.specs.Tried.{AttemptedBy}
-use Rattle.alpha_cmd.proofs.FormLaws.{done_goes}
+use Rattle.alpha_cmd.proofs.FormLaws.{AnswerBy-done}
 use Rattle.alpha_cmd.proofs.Commands.Link.{link_form-lawful, files_read, modules_spelled, all_modules}
 use Rattle.alpha_cmd.proofs.Commands.Link.{NamesModule-Spell}
 use Rattle.alpha_cmd.proofs.ModuleWords.{spelled_words}
 use Rattle.alpha_cmd.proofs.StageLaws.{is_file-injective}
-use Rattle.alpha_cmd.proofs.AttemptedBy.{done_tried}
+use Rattle.alpha_cmd.proofs.AttemptedBy.{AttemptedBy-done}
 
 abbrev IsSafe : ModuleParts → Type 0
 IsSafe m = IsAccepted m.words
@@ -34,7 +34,7 @@ all_good : (ms : List ModuleParts) → All IsModule ms → All IsSafe ms → All
 all_good [] good all = All-nil IsGood
 all_good (m ∷ ms) good all =
     let here : IsModule m = All-head IsModule m ms good in
-    All-cons IsGood m ms (image_known One m.words here.words, All-head IsSafe m ms all)
+    All-cons IsGood m ms (AreKnownWords-code_words One m.words here.words, All-head IsSafe m ms all)
     (all_good ms (All-tail IsModule m ms good) (All-tail IsSafe m ms all))
 
 -- the bytes of a told file are one list
@@ -60,15 +60,15 @@ pub kept_link : (shelf input : Type 0) (words : List (List ℕ)) (entry out : Li
     → AsksFor words (link entry out names) → AttemptedBy shelf input words w t → t.status ≡ Done 0 → HasKept t.kept s
     → KeepsLink entry out names w.files s.new
 kept_link shelf input words entry out names w t s asks tried e has =
-    let a = done_tried shelf input words (link entry out names) w t asks tried e in
+    let a = AttemptedBy-done shelf input words (link entry out names) w t asks tried e in
     let (bytes, (all, read, (ms, found, (image, good, (links, is)))), (taken, kept)) =
-    done_goes (form entry out names) (there entry out names) w (link_form-lawful entry out names w) t a
+    AnswerBy-done (form entry out names) (there entry out names) w (link_form-lawful entry out names w) t a
     (ap class_of e) in
     let spelled = modules_spelled all ms found in
     let named = NamesModule-Spell w.files names all ms (files_read w.files names all read) spelled in
     let safe : All IsSafe ms → IsAccepted image.words × IsRestartable image = λ each.
     (let ok = linked_accepted ms entry image good links (all_good ms (all_modules all ms spelled) each) in
-    (ok, accepted_restarts image good ok)) in
+    (ok, IsAccepted-IsRestartable image good ok)) in
     record {
       modules = ms;
       image = image;

@@ -13,18 +13,18 @@ use Rattle.alpha_cmd.specs.SourceCommands.{form, there}
 use Rattle.alpha_cmd.specs.Kept.{Kept, HasKept}
 use Rattle.alpha_cmd.specs.Status.{class_of}
 use Rattle.alpha_cmd.specs.Tried.{AttemptedBy}
-use Rattle.alpha_cmd.proofs.FormLaws.{done_goes}
+use Rattle.alpha_cmd.proofs.FormLaws.{AnswerBy-done}
 use Rattle.alpha_cmd.proofs.SourceCommands.{source_form-lawful}
-use Rattle.alpha_cmd.proofs.AttemptedBy.{done_tried}
+use Rattle.alpha_cmd.proofs.AttemptedBy.{AttemptedBy-done}
 
 pub kept_module : (shelf input : Type 0) (words : List (List ℕ))
     (file out : List ℕ) (w : World) (t : Answer) (s : ShelfChange)
     → AsksFor words (make_module file out)
     → AttemptedBy shelf input words w t → t.status ≡ Done 0 → HasKept t.kept s → KeepsModule file out w.files s.new
 kept_module shelf input words file out w t s asks tried e has =
-    let a = done_tried shelf input words (make_module file out) w t asks tried e in
+    let a = AttemptedBy-done shelf input words (make_module file out) w t asks tried e in
     let (bytes, (source, read, (m, made, (accepted, is))), (taken, kept)) =
-    done_goes (form Module file out) (there Module file out) w (source_form-lawful Module file out w) t a
+    AnswerBy-done (form Module file out) (there Module file out) w (source_form-lawful Module file out w) t a
     (ap class_of e) in
     record {
       source = source;

@@ -33,7 +33,7 @@ use Rattle.alpha_cmd.specs.RecordRan.{ShowsRecord, ReadsAndKeeps}
 use Rattle.alpha_cmd.specs.RunAnswer.{program_by}
 use Rattle.alpha_cmd.proofs.AcceptedFiles.{spelling-ImageOf}
 use Rattle.alpha_cmd.proofs.Commands.Replay.{replay_form-lawful}
-use Rattle.alpha_cmd.proofs.FormLaws.{one_answer}
+use Rattle.alpha_cmd.proofs.FormLaws.{AnswerBy-unique}
 
 -- ---- a good journal is short enough for a file of a call
 
@@ -94,7 +94,8 @@ replay_done file out v a image p files is good there run answered =
       refl,
     ) in
     ap (λ (x : Answer). x.status)
-    (one_answer (replays.form file out) (replays.there file out) v (replay_form-lawful file out v) a b files answered
+    (AnswerBy-unique (replays.form file out) (replays.there file out) v
+    (replay_form-lawful file out v) a b files answered
     answers)
 
 pub kept_replay : (options : RunOptions) (choices : Origin)

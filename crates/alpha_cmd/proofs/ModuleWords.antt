@@ -23,7 +23,7 @@ use Rattle.alpha_image.specs.Reading.{longword_at, words_of}
 use Rattle.alpha_image.specs.Parts.{IsCodeWord, IsWithin}
 use Rattle.alpha_image.specs.Insns.{IsCodeInsn}
 use Rattle.alpha_image.specs.FirstOf.{unless as field_unless, first_of}
-use Rattle.alpha_image.proofs.CodeInsns.{code_words_of_insns}
+use Rattle.alpha_image.proofs.CodeInsns.{IsCodeWord-map_encoded}
 use Rattle.alpha_image.proofs.CodeWords.{words_of-flat_map, length-flat_map_longword}
 use Rattle.alpha_image.proofs.FieldRules.{option_or-both_none}
 use Rattle.alpha_image.proofs.LittleEndianNumbers.{longword_at-front}
@@ -152,7 +152,7 @@ items_words : (is : List LineStmt) → AllByRecursion (λ (i : LineStmt). SaysIn
     → All (IsCodeWord Two) (module_of is).words
 unfolding module_of layout
 items_words is h =
-    (code_words_of_insns Two (flat_map (λ x. raw_insns x.item.statement) (placed start 1 is))
+    (IsCodeWord-map_encoded Two (flat_map (λ x. raw_insns x.item.statement) (placed start 1 is))
     (item_insns start 1 is h)).0
 
 made_words : (source : List ℕ) (m : ModuleParts) → made_module source ≡ Ok m → HaveWords m

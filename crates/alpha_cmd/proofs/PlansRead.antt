@@ -4,7 +4,7 @@ use Rattle.std.proofs.Common.{inr, ⊎_elim, append_assoc, append-nil}
 use Rattle.alpha_io.specs.History.{Reply, Piece, pieces_from, IsReadWhole, IsReadInPart}
 use Rattle.alpha_io.proofs.FilePieces.{one_read, part-not_whole}
 use Rattle.alpha_image.specs.Parts.{Parts, IsImage, image_spelling}
-use Rattle.alpha_image.proofs.Spelled.{one_image}
+use Rattle.alpha_image.proofs.Spelled.{image_spelling-injective}
 use Rattle.alpha_request.specs.Origin.{Origin, seed, file}
 use Rattle.alpha_imprecise.specs.Pcg.{pcg_word, seeded}
 use Rattle.alpha_cmd.specs.declared.status.Status.TheVariants.{NoMemory}
@@ -55,7 +55,7 @@ same_moment old new choices name middle image plan read (rest, behind) is =
 pub same_image : (old new : List Reply) (choices : Origin) (name : List ℕ) (a b : Plan)
     → IsPlanRead old new choices name a → IsPlanRead old new choices name b → b.image ≡ a.image
 same_image old new choices name a b first second =
-    one_image b.image a.image second.good first.good
+    image_spelling-injective b.image a.image second.good first.good
     (sym (same_moment old new choices name first.middle a.image b first.read
     (ReadsWords-behind first.middle new choices a.ahead first.words) second).0)
 

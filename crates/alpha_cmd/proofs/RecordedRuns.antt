@@ -4,7 +4,7 @@ use Rattle.std.proofs.Common.{subst, inl, inr}
 use Rattle.alpha_image.specs.Parts.{Parts as Image}
 use Rattle.alpha_request.specs.declared.options.RunOptions.{RunOptions}
 use Rattle.alpha_request.specs.Origin.{Origin}
-use Rattle.alpha_restart.proofs.Agreement.{accepted_restarts}
+use Rattle.alpha_restart.proofs.Agreement.{IsAccepted-IsRestartable}
 use Rattle.alpha_seq.specs.State.{Program, State, Went, Barriered, Overflowed, Ends}
 use Rattle.alpha_seq.specs.Start.{start}
 use Rattle.alpha_seq.specs.Run.{Shown, sequential}
@@ -28,7 +28,7 @@ use Rattle.alpha_replay.proofs.JournaledSteps.{stopped_used}
 use Rattle.alpha_replay.proofs.JournaledReplays.{journaled_lists, journaled_input-taken, listed_taken}
 use Rattle.alpha_replay.proofs.JournaledReplays.{journaled_replays}
 use Rattle.alpha_replay.proofs.JournaledRuns.{played_in, journaled_run}
-use Rattle.alpha_replay.proofs.JournalBounds.{few_words}
+use Rattle.alpha_replay.proofs.JournalBounds.{IsJournaled-bounds}
 use Rattle.alpha_cmd.specs.Outcome.{continues, stops}
 use Rattle.alpha_cmd.specs.Answer.{Answer}
 use Rattle.alpha_cmd.specs.AnswerBy.{World, AnswerBy}
@@ -48,7 +48,7 @@ module _ (n : ℕ) (g : Program) (s : State) (input words : List ℕ) (k : Chose
   place_used : HasUsed n k.run.units k.run.at
   place_used =
       stopped_used n g.completion k.run.units k.run.steps k.run.at
-      (few_words n g s input words k is).0 within is.stopped
+      (IsJournaled-bounds n g s input words k is).0 within is.stopped
 
   place_made : k ≡ chosen_run g (begun s input None 0 words) n
   place_made =
@@ -169,7 +169,7 @@ module _ (options : RunOptions) (choices : Origin) (force : Bool) (file out byte
             ap (λ (a : Answer). a.kept) is,
             subst (IsJournalOf options plan.image bytes k.journal) (sym is)
                 (run_journal options plan.image bytes plan.ahead force k.shown k.journal
-                (λ judges. accepted_restarts plan.image good.0 (good.1 judges)) may has kept),
+                (λ judges. IsAccepted-IsRestartable plan.image good.0 (good.1 judges)) may has kept),
           )
 
   pub kept_with : (a : Answer) → AnswerBy (steps options choices force file out) w a

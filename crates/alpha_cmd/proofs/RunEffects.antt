@@ -144,17 +144,18 @@ cut_begins options fault m input out notes at cut (Some bytes) is =
 
 -- ---- the status and the line of a run that was made
 
-pub says_end : (left : Option (List ℕ)) (last : Option Event) (end : Option End) → last ≡ ended_by end
+pub answer_status-run_end : (left : Option (List ℕ)) (last : Option Event) (end : Option End) → last ≡ ended_by end
     → status_answer left (answer_status last 0) (answer_line last) ≡ status_answer left (run_status end) (run_line end)
-says_end left last None is = ap (λ (o : Option Event). status_answer left (answer_status o 0) (answer_line o)) is
-says_end left last (Some end) is =
+answer_status-run_end left last None is =
+    ap (λ (o : Option Event). status_answer left (answer_status o 0) (answer_line o)) is
+answer_status-run_end left last (Some end) is =
     ap (λ (o : Option Event). status_answer left (answer_status o 0) (answer_line o)) is
     ∙ ap (λ (status : Status). status_answer left status (end_line end)) (none_drawn end)
 
 -- ---- what is done of an image by it
 
 -- a run that was made, with the status and the line of its end still to be written
-pub ran_whole : {H S K N : Type 0} (h : shelves.Ghosts H) (s : sources.Ghosts S) (k : sinks.Ghosts K)
+pub CommandEffect-run_made : {H S K N : Type 0} (h : shelves.Ghosts H) (s : sources.Ghosts S) (k : sinks.Ghosts K)
     (n : sinks.Ghosts N) (old : Devices H S K N) (input : S) (out : K) (notes : N)
     (options : RunOptions) (m : Machine) (last : Option Event) (d : Decision)
     → ((left : Option (List ℕ)) → answer_in left d ≡ status_answer left (answer_status last 0) (answer_line last))
@@ -163,21 +164,21 @@ pub ran_whole : {H S K N : Type 0} (h : shelves.Ghosts H) (s : sources.Ghosts S)
     → s.faults input ≡ s.faults old.input
     → LeavesEnd (drawn s old.input input)
     → CommandEffect h s k n (on options m.image) (Ok d) old (streamed_devices h s k n old input out notes)
-ran_whole h s k n old input out notes options m last d says did same rest =
+CommandEffect-run_made h s k n old input out notes options m last d says did same rest =
     let a = answer_shown (s.left old.input) did.shown in
     let end = did.shown.end in
     does_whole h s k n old input out notes (on options m.image) d a (run_status end) (run_line end)
     (continues a, (did.shown, did.may, refl), refl)
-    (λ left. says left ∙ says_end left last end did.last_is)
+    (λ left. says left ∙ answer_status-run_end left last end did.last_is)
     refl refl did.bytes did.lines did.left refl (takes_end end) same rest
 
 -- one that was cut short
-pub cut_fronts : (options : RunOptions) (m : Machine) (w : World) (fault : Fault)
+pub AttemptPrefixes-cut_run : (options : RunOptions) (m : Machine) (w : World) (fault : Fault)
     {rest : ℕ} {new : Machine} (d : Drawn) (out notes : SinkChange)
     → IsStarted options m
     → SeqPrefixRun fault options.steps rest options.watch m new d out notes → d.old.left ≡ w.input
     → AttemptPrefixes (on options m.image) w out notes
-cut_fronts options m w fault d out notes at cut told =
+AttemptPrefixes-cut_run options m w fault d out notes at cut told =
     let b = cut_begins options fault m d out notes at cut w.input told in
     record {
       answer = answer_shown w.input b.shown;

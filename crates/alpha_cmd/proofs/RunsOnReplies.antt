@@ -56,21 +56,21 @@ use Rattle.alpha_cmd.specs.RunsAsked.{HasEnded, ShowsOf, ShowsPlan, ShowsAsked, 
 use Rattle.alpha_cmd.specs.RunsAsked.{DecidesOf, DecidesAsked, WhereEnded}
 use Rattle.alpha_cmd.specs.ShowsDone.{ShowsDone, DecidesDone}
 use Rattle.alpha_cmd.proofs.Commands.Imprecise.{planned_image}
-use Rattle.alpha_cmd.proofs.EndStatuses.{drawn_end, run_end_class, sink_unended}
+use Rattle.alpha_cmd.proofs.EndStatuses.{but_drawn-run_status, IsRunEnd-HasEnded, HasEnded-not_SinkFault}
 use Rattle.alpha_cmd.proofs.EndsWhere.{seeded_read}
 use Rattle.alpha_cmd.proofs.PlansRead.{seed_plan, seed_plan-read}
-use Rattle.alpha_cmd.proofs.RunEffects.{IsStarted, says_end}
+use Rattle.alpha_cmd.proofs.RunEffects.{IsStarted, answer_status-run_end}
 use Rattle.alpha_cmd.proofs.StageLaws.{IfOk-more}
 
 -- ---- of a file
 
 -- what was decided of an image that was read is so of the file's
-pub image_ran : {H : Type 0} (h : shelves.Ghosts H) (old middle new : H) (name : List ℕ) (image : Parts)
+pub IfOk-ReadsImage : {H : Type 0} (h : shelves.Ghosts H) (old middle new : H) (name : List ℕ) (image : Parts)
     (r : Result Decision Failed) (P : Parts → Decision → Type 0)
     → IsImage image × IsReadWhole (h.replies old) (h.replies middle) name (image_spelling image)
     → ImageOf (h.files old) name (continues image) → new ≡ middle
     → IfOk r (P image) → IfOk r (λ d. ReadsImage (shelf_change h old new) name (λ x. P x d))
-image_ran h old middle new name image r P read found same did =
+IfOk-ReadsImage h old middle new name image r P read found same did =
     IfOk-more r (λ d has. record {
       image = image;
       good = read.0;
@@ -96,7 +96,7 @@ ran_decides options m last rest new d out sink at ran decision says =
     let first = subst (λ (s : State). Runs (program_of m) (begins s) ran.events ran.at) at.state ran.runs in
     let end = end_of ran.at.event in
     let e : answer_in None decision ≡ status_answer None (run_status end) (run_line end) =
-    says None ∙ says_end None last end ran.end in
+    says None ∙ answer_status-run_end None last end ran.end in
     record {
       ran = record {
         run = record {
@@ -107,7 +107,7 @@ ran_decides options m last rest new d out sink at ran decision says =
         };
         answers = ran.fed.answers;
       };
-      status_is = ap (λ (a : Answer). but_drawn a.status) e ∙ drawn_end end;
+      status_is = ap (λ (a : Answer). but_drawn a.status) e ∙ but_drawn-run_status end;
       no_more = ap (λ (a : Answer). a.output) e;
       line_is = ap (λ (a : Answer). a.line) e;
       put = ran.wrote;
@@ -258,12 +258,12 @@ module _ {K N : Type 0} (k : Ghosts K) (n : Ghosts N) (o p q : K) (x y z : N) (c
 -- ---- of a plan
 
 -- what was decided of a plan that was read is so of the files'
-pub plan_ran : {H : Type 0} (h : shelves.Ghosts H) (old middle new : H) (name : List ℕ) (choices : Origin)
+pub IfOk-ReadsPlan : {H : Type 0} (h : shelves.Ghosts H) (old middle new : H) (name : List ℕ) (choices : Origin)
     (force : Bool) (plan : Plan) (r : Result Decision Failed) (P : Plan → Decision → Type 0)
     → IsPlanRead (h.replies old) (h.replies middle) choices name plan
     → Planned choices force name (h.files old) (continues plan) → new ≡ middle
     → IfOk r (P plan) → IfOk r (λ d. ReadsPlan (shelf_change h old new) choices name (λ p. P p d))
-plan_ran h old middle new name choices force plan r P read found same did =
+IfOk-ReadsPlan h old middle new name choices force plan r P read found same did =
     IfOk-more r (λ d has. record {
       plan = plan;
       is =
@@ -274,7 +274,7 @@ plan_ran h old middle new name choices force plan r P read found same did =
     }) did
 
 -- and where a journal was kept behind it
-pub record_ran : {H : Type 0} (h : shelves.Ghosts H) (old middle new : H) (name out : List ℕ) (choices : Origin)
+pub IfOk-ReadsAndKeeps : {H : Type 0} (h : shelves.Ghosts H) (old middle new : H) (name out : List ℕ) (choices : Origin)
     (force : Bool) (plan : Plan) (r : Result Decision Failed) (P : Plan → Journal → Decision → Type 0)
     → IsPlanRead (h.replies old) (h.replies middle) choices name plan
     → Planned choices force name (h.files old) (continues plan)
@@ -282,7 +282,7 @@ pub record_ran : {H : Type 0} (h : shelves.Ghosts H) (old middle new : H) (name 
     × (h.replies new ≡ h.replies middle ++ Kept out (journals.spelling p) true ∷ []) × P plan p d)
     → IfOk r (λ d. IsEndStatus true d.status
     → ReadsAndKeeps (shelf_change h old new) choices name out (λ p journal. P p journal d))
-record_ran h old middle new name out choices force plan r P read found did =
+IfOk-ReadsAndKeeps h old middle new name out choices force plan r P read found did =
     IfOk-more r (λ d has ends. let (p, good, kept, ran) = has ends in record {
       plan = plan;
       journal = p;
@@ -300,13 +300,14 @@ all_ok (Ok v) = tt
 all_ok (Err e) = tt
 
 -- nothing is said of the other commands
-pub other_asked : (r : Result Decision Failed) → WhereEnded r (λ decision. Unit {0})
-other_asked r = λ ends. all_ok r
+pub WhereEnded-other_command : (r : Result Decision Failed) → WhereEnded r (λ decision. Unit {0})
+WhereEnded-other_command r = λ ends. all_ok r
 
 -- ---- of a call
 
 -- the output was o and p and is q, the notes were x and y and are z
-pub runs_on : {K N : Type 0} (k : Ghosts K) (n : Ghosts N) (o p q : K) (x y z : N) (words : List (List ℕ)) (c : Call)
+pub ShowsAsked-call : {K N : Type 0} (k : Ghosts K) (n : Ghosts N) (o p q : K) (x y z : N) (words : List (List ℕ))
+    (c : Call)
     (decision : Decision) (status : Status)
     → (status ≡ SinkFault) ⊎ (status ≡ decision.status)
     → (status ≢ SinkFault → Puts (sink_change k p q) decision.output)
@@ -315,25 +316,25 @@ pub runs_on : {K N : Type 0} (k : Ghosts K) (n : Ghosts N) (o p q : K) (x y z : 
     → WhereEnded (Ok decision) (λ d. DecidesAsked command d c.shelf c.input (sink_change k o p) (sink_change n x y)))
     → (command : Command) → AsksFor words command → HasEnded status
     → ShowsAsked command status (record c { out = sink_change k o q; notes = sink_change n x z })
-runs_on k n o p q x y z words c decision status (inl e) puts lines did =
-    λ command asks ends. absurd (sink_unended (subst HasEnded e ends))
-runs_on k n o p q x y z words c decision status (inr e) puts lines did = λ command asks ends.
-    let calm : status ≢ SinkFault = λ f. sink_unended (subst HasEnded f ends) in
+ShowsAsked-call k n o p q x y z words c decision status (inl e) puts lines did =
+    λ command asks ends. absurd (HasEnded-not_SinkFault (subst HasEnded e ends))
+ShowsAsked-call k n o p q x y z words c decision status (inr e) puts lines did = λ command asks ends.
+    let calm : status ≢ SinkFault = λ f. HasEnded-not_SinkFault (subst HasEnded f ends) in
     shows_asked k n o p q x y z c decision status e (puts calm) (lines calm) command
     (did command asks (subst HasEnded e ends))
 
 -- of plain words
-pub ran_on : (words : List (List ℕ)) (status : Status) (c : Call) → RunsAsked words status c → Ran words status c
-ran_on words status c h name plain = (
+pub RunsAsked-Ran : (words : List (List ℕ)) (status : Status) (c : Call) → RunsAsked words status c → Ran words status c
+RunsAsked-Ran words status c h name plain = (
   λ is. let r = h (run defaults name) (ap asked is ∙ plain_run name plain) in record {
     shows =
-        λ ends. let s = r.shows (run_end_class status ends) in
+        λ ends. let s = r.shows (IsRunEnd-HasEnded status ends) in
         record { image = s.image; good = s.good; read = s.read; told = s.told; has = (tt, s.has) };
     ends = r.ends;
   },
   λ is. let r = h (imprecise defaults (seed 0) false name) (ap asked is ∙ plain_imprecise name plain) in record {
     shows =
-        λ ends. let s = r.shows (run_end_class status ends) in
+        λ ends. let s = r.shows (IsRunEnd-HasEnded status ends) in
         let read = seeded_read c.shelf.past c.shelf.history (seed 0) name s.plan 0 refl s.is in
         record { image = s.plan.image; good = read.0; read = read.1; told = s.told; has = s.has };
     ends = λ image good accepted read. r.ends (seed_plan image 0) (λ judges. accepted)
@@ -342,7 +343,8 @@ ran_on words status c h name plain = (
 )
 
 -- of a listing
-pub listed_on : (words : List (List ℕ)) (status : Status) (c : Call) → RunsAsked words status c → Listed words status c
-listed_on words status c h name asks =
+pub RunsAsked-Listed : (words : List (List ℕ)) (status : Status) (c : Call) → RunsAsked words status c
+    → Listed words status c
+RunsAsked-Listed words status c h name asks =
     let r = h (dis name) (asked_rows words (dis name) asks) in
     record { shows = λ done. r.shows (inl (ap class_of done)); ends = r.ends }

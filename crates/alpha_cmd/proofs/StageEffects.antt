@@ -129,7 +129,7 @@ Serves-after a b stays also files takes count is first second = record {
   faults_unchanged = λ h. second.faults_unchanged h ∙ (sym count ∙ first.faults_unchanged is);
 }
 
-pub does_make : {H S K N : Type 0} (h : shelves.Ghosts H) (s : sources.Ghosts S) (k : sinks.Ghosts K)
+pub CommandEffect-making : {H S K N : Type 0} (h : shelves.Ghosts H) (s : sources.Ghosts S) (k : sinks.Ghosts K)
     (n : sinks.Ghosts N) (old : Devices H S K N) (middle new : H)
     (Makes : World → Outcome (List ℕ) → Type 0) (out bytes slice : List ℕ) (d : Decision) (stays : Type 0) → stays
     → Makes (told (shelf_call h s k n old middle)) (continues bytes) → OnlyReads (shelf_change h old.shelf middle) stays
@@ -140,7 +140,7 @@ pub does_make : {H S K N : Type 0} (h : shelves.Ghosts H) (s : sources.Ghosts S)
     → Serves (shelf_change h middle new) (d.status ≢ ShelfFault)
     → SparesBy (keeps_last out) d.status (h.files middle) (h.files new)
     → CommandEffect h s k n (making_form Makes out) (Ok d) old (record old { shelf = new })
-does_make h s k n old middle new Makes out bytes slice d stays is found reads same tries serves spares =
+CommandEffect-making h s k n old middle new Makes out bytes slice d stays is found reads same tries serves spares =
     does_settled h s k n old new (making_form Makes out) d
     (FinalOutcome-kept h old.shelf middle new Makes out bytes slice (drawn s old.input old.input)
     (answer_in (s.left old.input) d) stays found reads same (tries (s.left old.input)))

@@ -9,13 +9,13 @@ use Rattle.alpha_image.specs.Parts.{Parts, IsByte, IsImage, image_spelling}
 use Rattle.alpha_image.specs.PartsOf.{parts_of}
 use Rattle.alpha_image.specs.ImageFault.{first_fault}
 use Rattle.alpha_image.proofs.ReadSpelling.{IsBytes-All, image-no_fault}
-use Rattle.alpha_image.proofs.Spelled.{one_image, first_fault-image_spelling}
+use Rattle.alpha_image.proofs.Spelled.{image_spelling-injective, first_fault-image_spelling}
 use Rattle.alpha_shadow.specs.declared.broken.Broken.{Broken}
 use Rattle.alpha_shadow.specs.Broken.{IsAccepted}
 use Rattle.alpha_shadow.specs.Least.{IsLeastBroken, NoLater}
 use Rattle.alpha_verdict.specs.Report.{broken_line}
 use Rattle.alpha_shadow.proofs.ConditionNumbers.{condition_number-injective}
-use Rattle.alpha_shadow.proofs.Decided.{accepted_or_broken}
+use Rattle.alpha_shadow.proofs.Decided.{IsAccepted-or_IsLeastBroken}
 use Rattle.alpha_cmd.specs.declared.decision.Decision.{Decision}
 use Rattle.alpha_cmd.specs.declared.status.Status.{Status}
 use Rattle.alpha_cmd.specs.declared.status.Status.TheVariants.{Done, NotRestartable, BadImage, ShelfFault, TooLarge}
@@ -56,8 +56,10 @@ read_apart files name limit a s there within (inr h) = too_long (files name) a l
 same_miss : (files : List ℕ → Option (List ℕ)) (name : List ℕ) (limit : ℕ) (s t : Status)
     → Unread (Some files) name limit s → Unread (Some files) name limit t → s ≡ t
 same_miss files name limit s t (inl h) (inl g) = h.0 ∙ sym g.0
-same_miss files name limit s t (inl h) (inr g) = absurd (IsSomeAnd-None (files name) (λ file. limit < length file) h.1 g.1)
-same_miss files name limit s t (inr h) (inl g) = absurd (IsSomeAnd-None (files name) (λ file. limit < length file) g.1 h.1)
+same_miss files name limit s t (inl h) (inr g) =
+    absurd (IsSomeAnd-None (files name) (λ file. limit < length file) h.1 g.1)
+same_miss files name limit s t (inr h) (inl g) =
+    absurd (IsSomeAnd-None (files name) (λ file. limit < length file) g.1 h.1)
 same_miss files name limit s t (inr h) (inr g) = h.0 ∙ sym g.0
 
 Reads-single : (files : Files) (name : List ℕ) (limit : ℕ) → IsSome files → IsSingle (Reads files name limit)
@@ -112,17 +114,17 @@ found_bytes : (files : List ℕ → Option (List ℕ)) (name bytes : List ℕ) �
 found_bytes files name bytes whole None e there = absurd there
 found_bytes files name bytes whole (Some file) e there = subst (All IsByte) there (whole name file e)
 
-pub read_bytes : (files : Files) (name bytes : List ℕ) → IsSome files → HaveBytes files → HasFile files name bytes
+pub HasFile-IsByte : (files : Files) (name bytes : List ℕ) → IsSome files → HaveBytes files → HasFile files name bytes
     → All IsByte bytes
-read_bytes None name bytes told whole there = cc
-read_bytes (Some files) name bytes told whole there = found_bytes files name bytes whole (files name) refl there
+HasFile-IsByte None name bytes told whole there = cc
+HasFile-IsByte (Some files) name bytes told whole there = found_bytes files name bytes whole (files name) refl there
 
 -- files that stay are the same
-pub kept_same : (a b : Files) → KeepsFiles a b → b ≡ a
-kept_same None None kept = refl
-kept_same None (Some g) kept = absurd kept
-kept_same (Some f) None kept = absurd kept
-kept_same (Some f) (Some g) kept = λ i. Some (λ name. kept name i)
+pub KeepsFiles-equal : (a b : Files) → KeepsFiles a b → b ≡ a
+KeepsFiles-equal None None kept = refl
+KeepsFiles-equal None (Some g) kept = absurd kept
+KeepsFiles-equal (Some f) None kept = absurd kept
+KeepsFiles-equal (Some f) (Some g) kept = λ i. Some (λ name. kept name i)
 
 -- ---- an image
 
@@ -137,7 +139,7 @@ Spells-lawful told whole there bytes all =
     Faults-lawful (λ image. IsImage image × (bytes ≡ image_spelling image)) BadImage (first_fault bytes) Some
     (λ f g e. cc)
     (λ f. refl)
-    (λ a b h g. one_image a b h.0 g.0 (sym h.1 ∙ g.1))
+    (λ a b h g. image_spelling-injective a b h.0 g.0 (sym h.1 ∙ g.1))
     (λ a f h first. let none = ap first_fault h.1 ∙ first_fault-image_spelling a h.0 in cc)
     (λ h. spells_some bytes (all h) (first_fault bytes) refl)
 
@@ -148,7 +150,7 @@ ImageOf-lawful told whole there files name is_told is_whole has =
     Then-lawful {R = Reads files name image_limit} {S = Spells}
     (Reads-lawful told whole there files name image_limit is_told (λ h. (is_whole h).0) has)
     (λ bytes read.
-    Spells-lawful told whole there bytes (λ h. read_bytes files name bytes (is_whole h).0 (is_whole h).1 read.0))
+    Spells-lawful told whole there bytes (λ h. HasFile-IsByte files name bytes (is_whole h).0 (is_whole h).1 read.0))
 
 at_stop : {X : Type 0} (R : Outcome X → Type 0) (shelf : Type 0)
     → ((s : Status) (line : List ℕ) → R (stops s line) → IsRefusal ⊥ s)
@@ -161,10 +163,10 @@ at_stop R shelf plain stop (inr (inl is)) e = let x = sym e ∙ ap stop_status i
 at_stop R shelf plain stop (inr (inr h)) e = let x = sym e ∙ ap stop_status h.0 in cc
 
 -- a decision that says why a stage stopped isn't that it is done
-pub stopped_undone : {X : Type 0} (R : Outcome X → Type 0) (shelf : Type 0)
+pub SaysStop-not_done : {X : Type 0} (R : Outcome X → Type 0) (shelf : Type 0)
     → ((s : Status) (line : List ℕ) → R (stops s line) → IsRefusal ⊥ s)
     → (stop : Stop) (d : Decision) → SaysStop stop d → StopsBy R shelf stop → d.status ≡ Done 0 → ⊥
-stopped_undone R shelf plain stop d says why done =
+SaysStop-not_done R shelf plain stop d says why done =
     at_stop R shelf plain stop why (sym (ap (λ (a : Answer). a.status) (says None)) ∙ done)
 
 pub image_plain : (files : Files) (name : List ℕ) (s : Status) (line : List ℕ) → ImageOf files name (stops s line)
@@ -178,8 +180,9 @@ IfOk-more (Err e) more h = tt
 -- ---- the verdict
 
 -- two least broken places are one
-pub same_least : (code : List ℕ) (b c : Broken) → IsLeastBroken code b → IsLeastBroken code c → b ≡ c
-same_least code b c x y = go (x.least c.trigger c.at c.condition y.broken) (y.least b.trigger b.at b.condition x.broken)
+pub IsLeastBroken-unique : (code : List ℕ) (b c : Broken) → IsLeastBroken code b → IsLeastBroken code c → b ≡ c
+IsLeastBroken-unique code b c x y =
+    go (x.least c.trigger c.at c.condition y.broken) (y.least b.trigger b.at b.condition x.broken)
   where
     joined : b.at ≡ c.at → b.trigger ≡ c.trigger → b.condition ≡ c.condition → b ≡ c
     joined e f g = λ i. record { trigger = f i; at = e i; condition = g i }
@@ -211,7 +214,7 @@ PassesAccepted code x y = IsAccepted code × (y ≡ x)
 same_refusal : (code : List ℕ) (base : ℕ) (s t : Status) (l m : List ℕ) → IsRefusedBy code base s l
     → IsRefusedBy code base t m → (s ≡ t) × (l ≡ m)
 same_refusal code base s t l m (b, is, why) (c, also, because) =
-    let same = same_least code b c why.0 because.0 in
+    let same = IsLeastBroken-unique code b c why.0 because.0 in
     (is ∙ (ap NotRestartable same ∙ sym also), why.1 ∙ (ap (λ place. broken_line place base) same ∙ sym because.1))
 
 judged_some : {X : Type 0} (code : List ℕ) (base : ℕ) (x : X)
@@ -221,7 +224,7 @@ judged_some code base x =
     (λ (good : IsAccepted code). (continues x, (good, refl)))
     (λ (bad : (b : Broken) × IsLeastBroken code b).
     (stops (NotRestartable bad.0) (broken_line bad.0 base), (bad.0, refl, (bad.1, refl))))
-    (accepted_or_broken code)
+    (IsAccepted-or_IsLeastBroken code)
 
 pub Verdict-lawful : {X told whole there : Type 0} (code : List ℕ) (base : ℕ) (x : X)
     → Lawful told whole there (Either (PassesAccepted code x) (IsRefusedBy code base))
@@ -240,21 +243,21 @@ Judges-lawful told whole there image = Verdict-lawful image.words image.code_bas
 
 -- ---- a file that is kept
 
-pub taken_or_not : (files : Files) (taken : Bool) → Refuses files taken ⊎ ¬ Refuses files taken
-taken_or_not None taken = inr (λ h. h)
-taken_or_not (Some f) true = inr (λ h. cc)
-taken_or_not (Some f) false = inl refl
+pub Refuses-decided : (files : Files) (taken : Bool) → Refuses files taken ⊎ ¬ Refuses files taken
+Refuses-decided None taken = inr (λ h. h)
+Refuses-decided (Some f) true = inr (λ h. cc)
+Refuses-decided (Some f) false = inl refl
 
-pub refused_there : (files : Files) (taken : Bool) → Refuses files taken → taken ≡ true → ⊥
-refused_there None taken h e = h
-refused_there (Some f) taken h e = let no = h in cc
+pub Refuses-not_taken : (files : Files) (taken : Bool) → Refuses files taken → taken ≡ true → ⊥
+Refuses-not_taken None taken h e = h
+Refuses-not_taken (Some f) taken h e = let no = h in cc
 
 kept_some : (w : World) (out bytes : List ℕ) → HasOutcome (KeepsAs w out bytes)
 kept_some w out bytes =
     ⊎_elim
     (λ (h : Untaken w out bytes). (stops ShelfFault (status_line ShelfFault), ((refl, h), refl)))
     (λ (h : ¬ Untaken w out bytes). (continues (kept_as w.input out bytes), (h, refl)))
-    (taken_or_not w.files (w.takes out (length bytes)))
+    (Refuses-decided w.files (w.takes out (length bytes)))
 
 pub KeepsAs-lawful : (told whole there : Type 0) (w : World) (out bytes : List ℕ)
     → (there → w.takes out (length bytes) ≡ true) → Lawful told whole there (KeepsAs w out bytes)
@@ -267,5 +270,5 @@ KeepsAs-lawful told whole there w out bytes has = record {
         apart = λ a s l h g. h.0 g.0.1;
       });
   some = λ h. kept_some w out bytes;
-  plain = λ s line h. inr (h.0.0, λ t. refused_there w.files (w.takes out (length bytes)) h.0.1 (has t));
+  plain = λ s line h. inr (h.0.0, λ t. Refuses-not_taken w.files (w.takes out (length bytes)) h.0.1 (has t));
 }

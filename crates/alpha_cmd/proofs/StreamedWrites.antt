@@ -23,7 +23,7 @@ use Rattle.alpha_cmd.specs.Ends.{OutcomeOrFault, Leaves, status_in}
 use Rattle.alpha_cmd.specs.Form.{Form, MayTakeBy}
 use Rattle.alpha_cmd.specs.Kept.{Kept, nothing, HasKept}
 use Rattle.alpha_cmd.specs.Attempts.{CountStays}
-use Rattle.alpha_cmd.proofs.CutShort.{AttemptPrefixes, cut_tried, cut_takes, cut_counts}
+use Rattle.alpha_cmd.proofs.CutShort.{AttemptPrefixes, cut_tried, IsCutShort-MayTakeBy, IsCutShort-CountStays}
 
 module _ {H S K N : Type 0} (h : shelves.Ghosts H) (s : sources.Ghosts S) (k : sinks.Ghosts K) (n : sinks.Ghosts N)
     (old : Devices H S K N) (input : S) (out : K) (notes : N) where
@@ -87,4 +87,4 @@ module _ {H S K N : Type 0} (h : shelves.Ghosts H) (s : sources.Ghosts S) (k : s
       does_stream f r
       (cut_tried _ f (told stream_call) takes stream_call.shelf (KeepsFiles-refl (h.files old.shelf)) stream_call.input
       stream_call.out stream_call.notes fronts fault r says cause)
-      (cut_takes f.kind takes fault r says) (cut_counts fault r _ _ _ says cause) rest
+      (IsCutShort-MayTakeBy f.kind takes fault r says) (IsCutShort-CountStays fault r _ _ _ says cause) rest

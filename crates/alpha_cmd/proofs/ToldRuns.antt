@@ -32,7 +32,7 @@ use Rattle.alpha_cmd.specs.ToldRun.{answer_told}
 use Rattle.alpha_cmd.proofs.Commands.Run.{shown_answer}
 use Rattle.alpha_cmd.proofs.AttemptedBy.{AnswerOf-single, asked_answer}
 use Rattle.alpha_cmd.proofs.AcceptedFiles.{spelling-ImageOf, accepted-IsChecked}
-use Rattle.alpha_cmd.proofs.ImpreciseAnswers.{checked_good, answers-equal}
+use Rattle.alpha_cmd.proofs.ImpreciseAnswers.{IsChecked-IsAcceptedFile, AnswerBy-imprecise_undrawn}
 
 -- ---- choices have words
 
@@ -88,11 +88,11 @@ pub record IsOfAccepted (options : RunOptions) (name bytes : List ℕ) (files : 
   pub there : HasFile files name (image_spelling image)
   pub is : a ≡ answer_told options image bytes
 
-pub told_back : (options : RunOptions) (name bytes : List ℕ) (w : World) (a : Answer) → IsSome w.files
+pub AnswerBy-IsOfAccepted : (options : RunOptions) (name bytes : List ℕ) (w : World) (a : Answer) → IsSome w.files
     → w.input ≡ Some bytes → IsChecked name w
     → AnswerBy (runs.steps options name) w a → IsOfAccepted options name bytes w.files a
-told_back options name bytes w a files e check is =
-    let h = checked_good name w check in
+AnswerBy-IsOfAccepted options name bytes w a files e check is =
+    let h = IsChecked-IsAcceptedFile name w check in
     let (text, read, spelt) = h.found in
     record {
       image = h.image;
@@ -105,11 +105,11 @@ told_back options name bytes w a files e check is =
     }
 
 -- So what is said of accepted images is said by the answers of `check` and `run`.
-pub by_answers : (words : List (List ℕ)) (status : Status) (c : Call) → Alike words status c
+pub Alike-AlikeByAnswers : (words : List (List ℕ)) (status : Status) (c : Call) → Alike words status c
     → AlikeByAnswers words status c
-by_answers words status c h options choices force name a asks files input has check is quiet =
+Alike-AlikeByAnswers words status c h options choices force name a asks files input has check is quiet =
     let (bytes, tells) = some_bytes c.input.old.left input in
-    let good = told_back options name bytes (told c) a files tells check is in
+    let good = AnswerBy-IsOfAccepted options name bytes (told c) a files tells check is in
     subst (λ (b : Answer). Answered b (but_drawn status) c) (sym good.is)
     (h options name bytes good.image (inr (choices, force, asks, have_words c.shelf.old choices has))
     (record { good = good.good; accepted = good.accepted; told = files; there = good.there; input = tells }) quiet)
@@ -126,7 +126,8 @@ module _ (image : Parts) (name bytes : List ℕ) (w : World) (good : IsImage ima
       → AsksFor words (imprecise options choices force name) → HaveWords w.files choices
       → (b : Answer) → IsAnswer words w b → undrawn b ≡ answer_told options image bytes
   imprecise_told words choices force asks has b is =
-      answers-equal options choices force name w (answer_told options image bytes) b files (some_told w bytes e)
+      AnswerBy-imprecise_undrawn options choices force name w (answer_told options image bytes) b files
+      (some_told w bytes e)
       (has_words w.files choices has) (accepted-IsChecked image w name good safe there)
       (is_run options image name bytes w found e)
       (asked_answer words (imprecise options choices force name) w b asks is)

@@ -21,8 +21,10 @@ pub AppendsOutput-flushed : {K : Type 0} (g : Ghosts K) (o p : K) (waited : List
 AppendsOutput-flushed g o p waited puts = record { put = waited; puts = puts; whole = refl }
 
 -- a block that took a part of some bytes has those before them in front
-pub cut-back : (old new bytes : List ℕ) → WritesPrefix (Some old) (Some new) bytes → take (length old) new ≡ old
-cut-back old new bytes part = ap (λ (l : List ℕ). take (length old) l) part.written ∙ take-append_seam old part.done
+pub WritesPrefix-take_old : (old new bytes : List ℕ) → WritesPrefix (Some old) (Some new) bytes
+    → take (length old) new ≡ old
+WritesPrefix-take_old old new bytes part =
+    ap (λ (l : List ℕ). take (length old) l) part.written ∙ take-append_seam old part.done
 
 -- ---- bytes behind those that wait
 
@@ -41,8 +43,8 @@ all-by true b waits bytes = refl
 all-by false true waits bytes = refl
 all-by false false waits bytes = sym (append-nil (waits ++ bytes))
 
-pub all_for : (waits bytes : List ℕ) → waits ++ bytes ≡ put_for waits bytes ++ waits_for waits bytes
-all_for waits bytes =
+pub put_for-waits_for : (waits bytes : List ℕ) → waits ++ bytes ≡ put_for waits bytes ++ waits_for waits bytes
+put_for-waits_for waits bytes =
     all-by (nat_le (length waits + length bytes) BLOCK_ROOM) (nat_le (length bytes) BLOCK_ROOM) waits bytes
 
 -- what is taken into the block, or put with what waited
@@ -52,14 +54,14 @@ pub AppendsOutput-for : {K : Type 0} (g : Ghosts K) (o p : K) (waits bytes new :
 AppendsOutput-for g o p waits bytes new puts is = record {
   put = put_for waits bytes;
   puts = puts;
-  whole = all_for waits bytes ∙ ap (λ (l : List ℕ). put_for waits bytes ++ l) (sym is);
+  whole = put_for-waits_for waits bytes ∙ ap (λ (l : List ℕ). put_for waits bytes ++ l) (sym is);
 }
 
 pub SinkFailsWith-for : {K : Type 0} (g : Ghosts K) (o p : K) (waits bytes new : List ℕ)
     → CutShort (sink_change g o p) (put_for waits bytes) → SinkFailsWith (output_change g o waits p new) bytes
 SinkFailsWith-for g o p waits bytes new cut = record {
   part =
-      subst (WritesPartly (sink_change g o p)) (sym (all_for waits bytes))
+      subst (WritesPartly (sink_change g o p)) (sym (put_for-waits_for waits bytes))
       (WritesPartly-more (sink_change g o p) (put_for waits bytes) (waits_for waits bytes) cut.part);
   failed = cut.failed;
 }

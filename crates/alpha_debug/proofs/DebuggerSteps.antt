@@ -29,7 +29,7 @@ use Rattle.alpha_debug.specs.Session.{is_barrier, is_reached, is_last, StepsResu
 use Rattle.alpha_debug.specs.OutputChange.{OutputChange}
 use Rattle.alpha_debug.specs.Watched.{was_barrier, end_by, watched_lines, watched_after, watched_stops, watches}
 use Rattle.alpha_debug.specs.Effects.{Grows, FailsBehind, StepsUntil, StepUntilFails, PutsNothing}
-use Rattle.alpha_debug.proofs.WatchedSteps.{row-bytes, row-quiet, seen-kept}
+use Rattle.alpha_debug.proofs.WatchedSteps.{row-bytes, row-quiet, seen_by-watched_after}
 use Rattle.alpha_debug.proofs.SinkEffects.{Grows-same, Grows-trans, FailsBehind-more}
 
 -- ---- one step
@@ -224,7 +224,9 @@ module _ (w v : Watcher) (most left : ℕ) (old new : Machine) (before after : O
   kept : (ps : List StepLabel) → v ≡ seen_by watched_after w ps
       → v ≡ record w { block = v.block; has_put = v.has_put }
   kept ps seen =
-      seen ∙ (seen-kept w ps ∙ ap (λ (u : Watcher). record w { block = u.block; has_put = u.has_put }) (sym seen))
+      seen
+      ∙ (seen_by-watched_after w ps
+      ∙ ap (λ (u : Watcher). record w { block = u.block; has_put = u.has_put }) (sym seen))
 
   -- all steps were made
   walked-all : RunsTo None SeqStep one_unit watches most left old new w v before after input out notes
@@ -269,7 +271,7 @@ module _ (w v : Watcher) (most left : ℕ) (old new : Machine) (before after : O
       (subst (λ (l : List Event). Fed front.0 l fed.0) one.is.seen front.2)) in
       let ends : is_last w.until w.points.items h new.pc ≡ true =
       last-is w p one.mid new one.is
-      ∙ (ap (λ (u : Watcher). ends_at watches u p.event p.core) (sym (seen-kept w ps)) ∙ one.ends) in
+      ∙ (ap (λ (u : Watcher). ends_at watches u p.event p.core) (sym (seen_by-watched_after w ps)) ∙ one.ends) in
       record {
         bytes = output (events_of qs);
         wrote = record {

@@ -23,7 +23,7 @@ use Rattle.alpha_debug.specs.Effects.{AnswerFails, IsPendingLine, hands_from, ha
 use Rattle.alpha_debug.proofs.SinkEffects.{Grows-same, AppendsOutput-both, SinkFailsWith-more, SinkFailsWith-after}
 use Rattle.alpha_debug.proofs.BlockContents.{AppendsOutput-flushed}
 use Rattle.alpha_debug.proofs.Sessions.{answer-grows}
-use Rattle.alpha_debug.proofs.ScriptLines.{LineHasNoFeed, within-other, within-feed}
+use Rattle.alpha_debug.proofs.ScriptLines.{LineHasNoFeed, lines_within-other_byte, lines_within-line_feed}
 use Rattle.alpha_debug.proofs.Scripts.{line-command}
 
 -- ---- where a session stops
@@ -107,7 +107,7 @@ module _ {K : Type 0} (k : Ghosts K) where
         let more : most ≡ suc n = omega arith in
         let g : Setting = setting_of old in
         let lines : lines_within most begun (10 ∷ rest) ≡ strip_carriage_return begun ∷ lines_within n [] rest =
-        ap (λ (m : ℕ). lines_within m begun (10 ∷ rest)) more ∙ within-feed n begun rest is_held.line in
+        ap (λ (m : ℕ). lines_within m begun (10 ∷ rest)) more ∙ lines_within-line_feed n begun rest is_held.line in
         let both = line-carries (command_of line) talk old new o p end last text (lines_within n [] rest) answers handed
         (after-line talk end last old new (text ++ answers.bytes) n rest p same next) in
         let moved = subst (λ (c : Command). HandsLine g c (session_of old text)
@@ -128,7 +128,7 @@ module _ {K : Type 0} (k : Ghosts K) where
       let more : most ≡ suc n = omega arith in
       let g : Setting = setting_of old in
       let lines : lines_within most begun (10 ∷ rest) ≡ strip_carriage_return begun ∷ lines_within n [] rest =
-      ap (λ (m : ℕ). lines_within m begun (10 ∷ rest)) more ∙ within-feed n begun rest is_held.line in
+      ap (λ (m : ℕ). lines_within m begun (10 ∷ rest)) more ∙ lines_within-line_feed n begun rest is_held.line in
       let breaks = fails text in
       subst (λ (ls : List (List ℕ)). HandsEach k g SinkFault p (session_of old text) ls o old.watcher.block) (sym lines)
       (inl (record {
@@ -152,7 +152,7 @@ module _ {K : Type 0} (k : Ghosts K) where
         let n : ℕ = most - 1 in
         let more : most ≡ suc n = omega arith in
         let lines : lines_within most begun (b ∷ rest) ≡ lines_within n (begun ++ b ∷ []) rest =
-        ap (λ (m : ℕ). lines_within m begun (b ∷ rest)) more ∙ within-other n b begun rest in
+        ap (λ (m : ℕ). lines_within m begun (b ∷ rest)) more ∙ lines_within-other_byte n b begun rest in
         subst (λ (ls : List (List ℕ)). HandsEach k (setting_of d) end last (session_of d text) ls o d.watcher.block)
         (sym lines)
         (subst (λ (t : List ℕ). hands_from k end last d t n (begun ++ b ∷ []) rest o) (append-nil text) next);

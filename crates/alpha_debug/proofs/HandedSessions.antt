@@ -24,7 +24,8 @@ use Rattle.alpha_debug.specs.Handed.{HandsLine, Stops, HandsEach, lines_come, Ha
 use Rattle.alpha_debug.specs.Effects.{session_of, setting_of, left_by, IsOpened, Answers, AnswerFails, IsPendingLine}
 use Rattle.alpha_debug.specs.Effects.{CloseEffect, hands_from, Carries, CarryFails, HandsLast, HandsAll}
 use Rattle.alpha_debug.proofs.SinkEffects.{Puts-output_change}
-use Rattle.alpha_debug.proofs.ScriptLines.{some-bytes, within-end, within-over, within-taken, held-last}
+use Rattle.alpha_debug.proofs.ScriptLines.{length-cons_not_zero, lines_within-script_end, lines_within-too_many_bytes}
+use Rattle.alpha_debug.proofs.ScriptLines.{lines_within-ended_parts, command_of-held_prefix}
 use Rattle.alpha_debug.proofs.HandedLines.{line-carries}
 
 module _ {K : Type 0} (k : Ghosts K) where
@@ -67,7 +68,7 @@ module _ {K : Type 0} (k : Ghosts K) where
         × HandsEach k g Done p (answer g c (session_of old text)) [] p new.watcher.block) same both in
         subst (λ (t : Bool).
         HandsEach k g Done p (session_of old text) (cond t [] (begun ∷ [])) o old.watcher.block)
-        (sym (some-bytes b more))
+        (sym (length-cons_not_zero b more))
         (inr (refl, p, new.watcher.block, moved.0, moved.1))
 
     pub last_answered : (begun : List ℕ) (talk : SessionState) (new : Debugger) → IsPendingLine begun held
@@ -75,8 +76,8 @@ module _ {K : Type 0} (k : Ghosts K) where
         → HandsLast k Done begun old o p
     last_answered begun talk new is_held empty answers text most =
         subst (λ (ls : List (List ℕ)). HandsEach k (setting_of old) Done p (session_of old text) ls o old.watcher.block)
-        (sym (within-end most begun is_held.line))
-        (answered-by begun talk new (ap command_of is_held.front ∙ held-last begun) empty answers text)
+        (sym (lines_within-script_end most begun is_held.line))
+        (answered-by begun talk new (ap command_of is_held.front ∙ command_of-held_prefix begun) empty answers text)
 
     failed-by : (begun : List ℕ) → command_of held ≡ command_of begun
         → AnswerFails (command_of held) old (output_change k o [] p []) → (text : List ℕ)
@@ -96,7 +97,7 @@ module _ {K : Type 0} (k : Ghosts K) where
         subst (λ (t : Bool).
         HandsEach k (setting_of old) SinkFault p (session_of old text) (cond t [] ((b ∷ more) ∷ [])) o
         old.watcher.block)
-        (sym (some-bytes b more))
+        (sym (length-cons_not_zero b more))
         (inl (record {
           bytes = breaks.bytes;
           is =
@@ -111,8 +112,8 @@ module _ {K : Type 0} (k : Ghosts K) where
     last_failed begun is_held fails text most =
         subst (λ (ls : List (List ℕ)).
         HandsEach k (setting_of old) SinkFault p (session_of old text) ls o old.watcher.block)
-        (sym (within-end most begun is_held.line))
-        (failed-by begun (ap command_of is_held.front ∙ held-last begun) fails text)
+        (sym (lines_within-script_end most begun is_held.line))
+        (failed-by begun (ap command_of is_held.front ∙ command_of-held_prefix begun) fails text)
 
   -- ---- underway
 
@@ -220,7 +221,7 @@ module _ {K : Type 0} (k : Ghosts K) where
         d.watcher.block → hands_from k end p d text 0 u.line (b ∷ []) p
     none-left end b text stops =
         subst (λ (ls : List (List ℕ)). HandsEach k (setting_of d) end p (session_of d text) ls p d.watcher.block)
-        (sym (within-over b u.line [] u.pending_is.line)) stops
+        (sym (lines_within-too_many_bytes b u.line [] u.pending_is.line)) stops
 
     -- the script failed
     pub handing_unread : HasGiven mid script.new.replies [] → d.watcher.block ≡ []
@@ -231,7 +232,7 @@ module _ {K : Type 0} (k : Ghosts K) where
       each =
           subst (λ (ls : List (List ℕ)).
           HandsEach k (setting_of first) InputFault p (session_of first []) ls o first.watcher.block)
-          (within-taken u.taken 0)
+          (lines_within-ended_parts u.taken 0)
           (u.on InputFault p [] 0 (0 ∷ [])
           (none-left InputFault 0 u.put (record { over = inr refl; puts = none-put p d.watcher.block empty })));
     }

@@ -78,7 +78,8 @@ first-word b line e =
     ∙ cond-true (has_bytes word) (word ∷ words (drop (word_len all) all)) (words (drop (word_len all) all)) []
     (has-other b line e))
 
-first-by : (b : ℕ) (line : List ℕ) → words line ≡ words_without_blanks (drop (prefix_len is_blank line) line) → (t : Bool)
+first-by : (b : ℕ) (line : List ℕ) → words line ≡ words_without_blanks (drop (prefix_len is_blank line) line)
+    → (t : Bool)
     → is_blank b ≡ t
     → words (b ∷ line) ≡ words_without_blanks (drop (prefix_len is_blank (b ∷ line)) (b ∷ line))
 first-by b line more true e =
@@ -94,11 +95,12 @@ words-skip_blanks [] = refl
 words-skip_blanks (b ∷ line) = first-by b line (words-skip_blanks line) (is_blank b) refl
 
 -- the first word that is read of a line, and what stands behind it
-pub first_at : (line s word rest : List ℕ) (n : ℕ) → s ≡ drop (prefix_len is_blank line) line → n ≡ word_len s
+pub words-first_word : (line s word rest : List ℕ) (n : ℕ) → s ≡ drop (prefix_len is_blank line) line → n ≡ word_len s
     → word ≡ take n s → rest ≡ drop n s
     → words line ≡ cond (has_bytes word) (word ∷ words rest) []
-first_at line s word rest n is_s is_n is_word is_rest =
+words-first_word line s word rest n is_s is_n is_word is_rest =
     let w : word ≡ take (word_len s) s = is_word ∙ ap (λ (k : ℕ). take k s) is_n in
     let r : rest ≡ drop (word_len s) s = is_rest ∙ ap (λ (k : ℕ). drop k s) is_n in
     words-skip_blanks line
-    ∙ (ap words_without_blanks (sym is_s) ∙ (ap (λ (l : List ℕ). word_and_rest l (drop (word_len s) s)) (sym w) ∙ ap (word_and_rest word) (sym r)))
+    ∙ (ap words_without_blanks (sym is_s)
+    ∙ (ap (λ (l : List ℕ). word_and_rest l (drop (word_len s) s)) (sym w) ∙ ap (word_and_rest word) (sym r)))

@@ -14,8 +14,8 @@ use Rattle.alpha_mem.specs.Memory.{bytes_at, IsMemory}
 use Rattle.alpha_mem.proofs.LawLemmas.{length-bytes_at, within-below}
 use Rattle.alpha_debug.specs.Lines.{rows}
 
-pub line_at : (word : ℕ) (i : Form) → decoded word ≡ Some i → option_map_or canon (decoded word) [] ≡ canon i
-line_at word i e = ap (λ (o : Option Form). option_map_or canon o []) e
+pub canon_of_decoded : (word : ℕ) (i : Form) → decoded word ≡ Some i → option_map_or canon (decoded word) [] ≡ canon i
+canon_of_decoded word i e = ap (λ (o : Option Form). option_map_or canon o []) e
 
 -- n rows are those before one, the one and some more
 pub record RowsBehind (row : ℕ → List ℕ) (n k : ℕ) : Type 0 where

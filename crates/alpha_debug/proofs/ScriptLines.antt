@@ -79,9 +79,9 @@ cond-cons true x xs ys = refl
 cond-cons false x xs ys = refl
 
 -- a byte more of the line in hand
-pub within-other : (n b : ℕ) (begun rest : List ℕ)
+pub lines_within-other_byte : (n b : ℕ) (begun rest : List ℕ)
     → lines_within (suc n) begun (b ∷ rest) ≡ lines_within n (begun ++ b ∷ []) rest
-within-other n b begun rest =
+lines_within-other_byte n b begun rest =
     let joined : (s : List ℕ) → begun ++ b ∷ s ≡ (begun ++ b ∷ []) ++ s =
     λ (s : List ℕ). sym (append_assoc begun (b ∷ []) s) in
     ap (λ (t : Bool). cond t (all_lines (begun ++ b ∷ rest)) (ended_parts (parts (begun ++ b ∷ take n rest))))
@@ -92,9 +92,9 @@ within-other n b begun rest =
     (joined (take n rest)))
 
 -- a line feed, which ends it
-pub within-feed : (n : ℕ) (begun rest : List ℕ) → LineHasNoFeed begun
+pub lines_within-line_feed : (n : ℕ) (begun rest : List ℕ) → LineHasNoFeed begun
     → lines_within (suc n) begun (10 ∷ rest) ≡ strip_carriage_return begun ∷ lines_within n [] rest
-within-feed n begun rest line =
+lines_within-line_feed n begun rest line =
     ap (λ (t : Bool). cond t (all_lines (begun ++ 10 ∷ rest)) (ended_parts (parts (begun ++ 10 ∷ take n rest))))
     (le-suc (length rest) n)
     ∙ (ap (λ (ls : List (List ℕ)). cond (nat_le (length rest) n) ls (ended_parts (parts (begun ++ 10 ∷ take n rest))))
@@ -108,23 +108,24 @@ one-part : (begun : List ℕ) → LineHasNoFeed begun → parts (begun ++ []) �
 one-part begun line = ap parts (append-nil begun) ∙ slice_split_none (λ b. b == 10) begun line
 
 -- the end of the script
-pub within-end : (n : ℕ) (begun : List ℕ) → LineHasNoFeed begun
+pub lines_within-script_end : (n : ℕ) (begun : List ℕ) → LineHasNoFeed begun
     → lines_within n begun [] ≡ cond (length begun == 0) [] (begun ∷ [])
-within-end n begun line =
+lines_within-script_end n begun line =
     ap (λ (t : Bool). cond t (all_lines (begun ++ [])) (ended_parts (parts (begun ++ take n [])))) (le-zero n)
     ∙ ap lines_of_parts (one-part begun line)
 
 -- a byte behind those that count
-pub within-over : (b : ℕ) (begun rest : List ℕ) → LineHasNoFeed begun → lines_within 0 begun (b ∷ rest) ≡ []
-within-over b begun rest line =
+pub lines_within-too_many_bytes : (b : ℕ) (begun rest : List ℕ) → LineHasNoFeed begun
+    → lines_within 0 begun (b ∷ rest) ≡ []
+lines_within-too_many_bytes b begun rest line =
     ap (λ (t : Bool). cond t (all_lines (begun ++ b ∷ rest)) (ended_parts (parts (begun ++ []))))
     (le-none (length rest))
     ∙ ap ended_parts (one-part begun line)
 
 -- the lines that end within bytes behind which there are more
-pub within-taken : (taken : List ℕ) (b : ℕ)
+pub lines_within-ended_parts : (taken : List ℕ) (b : ℕ)
     → lines_within (length taken + 0) [] (taken ++ b ∷ []) ≡ ended_parts (parts taken)
-within-taken taken b =
+lines_within-ended_parts taken b =
     let n : ℕ = length taken in
     let all : n + 0 ≡ n = omega arith in
     let script : List ℕ = taken ++ b ∷ [] in
@@ -149,9 +150,10 @@ answers-grows g s (line ∷ more) =
     (answers-grows g t more))
 
 -- what is written stays
-pub told-grows : (d : Debugger) (text : List ℕ) (most : ℕ) (begun script : List ℕ)
+pub told_from-Grows : (d : Debugger) (text : List ℕ) (most : ℕ) (begun script : List ℕ)
     → Grows text (told_from d text most begun script).text
-told-grows d text most begun script = answers-grows (setting_of d) (session_of d text) (lines_within most begun script)
+told_from-Grows d text most begun script =
+    answers-grows (setting_of d) (session_of d text) (lines_within most begun script)
 
 answers-over : (g : Setting) (s : Session) (lines : List (List ℕ)) → s.over ≡ true → answers g s lines ≡ s
 answers-over g s [] e = refl
@@ -175,56 +177,57 @@ closed-end : (n : ℕ) (s : Session) → closed n [] s ≡ record { text = text_
 closed-end n s = ap (λ (t : Bool). record { text = text_of s; end = cond (t && not s.over) TooLarge Done }) (lt-zero n)
 
 -- a byte more of the line in hand
-pub told-other : (d : Debugger) (text : List ℕ) (n b : ℕ) (begun rest : List ℕ)
+pub told_from-other_byte : (d : Debugger) (text : List ℕ) (n b : ℕ) (begun rest : List ℕ)
     → told_from d text (suc n) begun (b ∷ rest) ≡ told_from d text n (begun ++ b ∷ []) rest
-told-other d text n b begun rest =
+told_from-other_byte d text n b begun rest =
     ap (λ (ls : List (List ℕ)). closed (suc n) (b ∷ rest) (answers (setting_of d) (session_of d text) ls))
-    (within-other n b begun rest)
+    (lines_within-other_byte n b begun rest)
     ∙ closed-suc n b rest (answers (setting_of d) (session_of d text) (lines_within n (begun ++ b ∷ []) rest))
 
 -- a line feed: the line in hand is answered
-pub told-feed : (d : Debugger) (text : List ℕ) (n : ℕ) (begun rest : List ℕ) → LineHasNoFeed begun
+pub told_from-line_feed : (d : Debugger) (text : List ℕ) (n : ℕ) (begun rest : List ℕ) → LineHasNoFeed begun
     → told_from d text (suc n) begun (10 ∷ rest)
     ≡ closed n rest
     (answers (setting_of d) (answer (setting_of d) (command_of (strip_carriage_return begun)) (session_of d text))
     (lines_within n [] rest))
-told-feed d text n begun rest line =
+told_from-line_feed d text n begun rest line =
     ap (λ (ls : List (List ℕ)). closed (suc n) (10 ∷ rest) (answers (setting_of d) (session_of d text) ls))
-    (within-feed n begun rest line)
+    (lines_within-line_feed n begun rest line)
     ∙ closed-suc n 10 rest
     (answers (setting_of d) (answer (setting_of d) (command_of (strip_carriage_return begun)) (session_of d text))
     (lines_within n [] rest))
 
 -- a session that is over stays
-pub told-over : (g : Setting) (n : ℕ) (rest : List ℕ) (lines : List (List ℕ)) (s : Session) → s.over ≡ true
+pub closed-over_session : (g : Setting) (n : ℕ) (rest : List ℕ) (lines : List (List ℕ)) (s : Session) → s.over ≡ true
     → closed n rest (answers g s lines) ≡ record { text = text_of s; end = Done }
-told-over g n rest lines s e = ap (closed n rest) (answers-over g s lines e) ∙ closed-over n rest s e
+closed-over_session g n rest lines s e = ap (closed n rest) (answers-over g s lines e) ∙ closed-over n rest s e
 
-pub some-bytes : (b : ℕ) (line : List ℕ) → (length (b ∷ line) == 0) ≡ false
-some-bytes b line = ne_eqb (length (b ∷ line)) 0 (λ e. omega arith)
+pub length-cons_not_zero : (b : ℕ) (line : List ℕ) → (length (b ∷ line) == 0) ≡ false
+length-cons_not_zero b line = ne_eqb (length (b ∷ line)) 0 (λ e. omega arith)
 
 end-by : (g : Setting) (s : Session) (line : List ℕ) → s.over ≡ false
     → text_of (answers g s (cond (length line == 0) [] (line ∷ []))) ≡ text_of (answer g (command_of line) s)
 end-by g s [] e = refl
 end-by g s (b ∷ line) e =
-    ap (λ (t : Bool). text_of (answers g s (cond t [] ((b ∷ line) ∷ [])))) (some-bytes b line)
+    ap (λ (t : Bool). text_of (answers g s (cond t [] ((b ∷ line) ∷ [])))) (length-cons_not_zero b line)
     ∙ ap (λ (o : Bool). text_of (cond o s (answer g (command_of (b ∷ line)) s))) e
 
 -- the end of the script: what stands behind its last line feed is answered
-pub told-end : (d : Debugger) (text : List ℕ) (n : ℕ) (begun : List ℕ) → LineHasNoFeed begun
+pub told_from-script_end : (d : Debugger) (text : List ℕ) (n : ℕ) (begun : List ℕ) → LineHasNoFeed begun
     → told_from d text n begun []
     ≡ record { text = text_of (answer (setting_of d) (command_of begun) (session_of d text)); end = Done }
-told-end d text n begun line =
-    ap (λ (ls : List (List ℕ)). closed n [] (answers (setting_of d) (session_of d text) ls)) (within-end n begun line)
+told_from-script_end d text n begun line =
+    ap (λ (ls : List (List ℕ)). closed n [] (answers (setting_of d) (session_of d text) ls))
+    (lines_within-script_end n begun line)
     ∙ (closed-end n (answers (setting_of d) (session_of d text) (cond (length begun == 0) [] (begun ∷ [])))
     ∙ ap (λ (t : List ℕ). record { text = t; end = Done }) (end-by (setting_of d) (session_of d text) begun refl))
 
 -- a byte behind those that count: the session is too large
-pub told-large : (d : Debugger) (text : List ℕ) (b : ℕ) (begun rest : List ℕ) → LineHasNoFeed begun
+pub told_from-too_large : (d : Debugger) (text : List ℕ) (b : ℕ) (begun rest : List ℕ) → LineHasNoFeed begun
     → told_from d text 0 begun (b ∷ rest) ≡ record { text = text; end = TooLarge }
-told-large d text b begun rest line =
+told_from-too_large d text b begun rest line =
     ap (λ (ls : List (List ℕ)). closed 0 (b ∷ rest) (answers (setting_of d) (session_of d text) ls))
-    (within-over b begun rest line)
+    (lines_within-too_many_bytes b begun rest line)
     ∙ ap (λ (t : Bool). record { text = text; end = cond (t && true) TooLarge Done }) (lt-some (length rest))
 
 -- ---- the bytes of a line that are held
@@ -241,9 +244,9 @@ long-line : (line : List ℕ) → 1024 < length line → command_of line ≡ Unk
 long-line line l = ap (λ (t : Bool). cond t Unknown (command_in (words line))) (lt-above 1024 (length line) l)
 
 -- the line is answered alike where only its front is held
-pub held-line : (begun : List ℕ)
+pub command_of-held_line : (begun : List ℕ)
     → command_of (strip_carriage_return (take 1026 begun)) ≡ command_of (strip_carriage_return begun)
-held-line begun =
+command_of-held_line begun =
     ⊎_elim
     (λ (short : length begun < 1026).
     ap (λ (l : List ℕ). command_of (strip_carriage_return l)) (take_all 1026 begun (omega (arith, short))))
@@ -253,8 +256,8 @@ held-line begun =
     ∙ sym (long-line (strip_carriage_return begun) (omega (arith, strip-length begun))))
     (cases_lt (length begun) 1026)
 
-pub held-last : (begun : List ℕ) → command_of (take 1026 begun) ≡ command_of begun
-held-last begun =
+pub command_of-held_prefix : (begun : List ℕ) → command_of (take 1026 begun) ≡ command_of begun
+command_of-held_prefix begun =
     ⊎_elim
     (λ (short : length begun < 1026). ap command_of (take_all 1026 begun (omega (arith, short))))
     (λ (long : 1026 ≤ length begun).

@@ -13,11 +13,11 @@ use Rattle.alpha_debug.specs.Effects.{Grows, FailsBehind, with_block, Answers, A
 use Rattle.alpha_debug.specs.Effects.{told_after}
 use Rattle.alpha_debug.proofs.SinkEffects.{Grows-same, FailsBehind-more, AppendsOutput-both, SinkFailsWith-after}
 use Rattle.alpha_debug.proofs.BlockContents.{AppendsOutput-flushed}
-use Rattle.alpha_debug.proofs.ScriptLines.{told-grows}
+use Rattle.alpha_debug.proofs.ScriptLines.{told_from-Grows}
 
 told_after-grows : (talk : SessionState) (d : Debugger) (text : List ℕ) (most : ℕ) (begun rest : List ℕ)
     → Grows text (told_after talk d text most begun rest).text
-told_after-grows Continues d text most begun rest = told-grows d text most begun rest
+told_after-grows Continues d text most begun rest = told_from-Grows d text most begun rest
 told_after-grows Quits d text most begun rest = Grows-same text
 
 -- what waits is no part of the transcript

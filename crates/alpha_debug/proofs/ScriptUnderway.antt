@@ -27,7 +27,8 @@ use Rattle.alpha_debug.specs.Effects.{told_from, FeedsBytes, FeedFails, Closes, 
 use Rattle.alpha_debug.specs.Effects.{Tells}
 use Rattle.alpha_debug.specs.Effects.{ReadingFails, SessionSinkFails, TellEffect}
 use Rattle.alpha_debug.proofs.SinkEffects.{FailsBehind-after, AppendsOutput-both}
-use Rattle.alpha_debug.proofs.ScriptLines.{told-end, told-large, told-grows, held-last}
+use Rattle.alpha_debug.proofs.ScriptLines.{told_from-script_end, told_from-too_large, told_from-Grows}
+use Rattle.alpha_debug.proofs.ScriptLines.{command_of-held_prefix}
 
 -- ---- the end of a script
 
@@ -38,8 +39,9 @@ Closes-answered begun held talk old new out is_held answers = record {
   put = answers.bytes;
   wrote = answers.wrote;
   is = λ text most.
-      let line : command_of begun ≡ command_of held = sym (ap command_of is_held.front ∙ held-last begun) in
-      told-end old text most begun is_held.line
+      let line : command_of begun ≡ command_of held =
+      sym (ap command_of is_held.front ∙ command_of-held_prefix begun) in
+      told_from-script_end old text most begun is_held.line
       ∙ (ap (λ (c : Command). record { text = text_of (answer (setting_of old) c (session_of old text)); end = Done })
       line
       ∙ ap (λ (s : Session). record { text = text_of s; end = Done }) (answers.is text));
@@ -48,10 +50,10 @@ Closes-answered begun held talk old new out is_held answers = record {
 pub Closes-failed : (begun held : List ℕ) (old : Debugger) (out : OutputChange) → IsPendingLine begun held
     → AnswerFails (command_of held) old out → CloseFails begun old out
 Closes-failed begun held old out is_held fails text most =
-    let line : command_of begun ≡ command_of held = sym (ap command_of is_held.front ∙ held-last begun) in
+    let line : command_of begun ≡ command_of held = sym (ap command_of is_held.front ∙ command_of-held_prefix begun) in
     let whole : told_from old text most begun []
     ≡ record { text = text_of (answer (setting_of old) (command_of held) (session_of old text)); end = Done } =
-    told-end old text most begun is_held.line
+    told_from-script_end old text most begun is_held.line
     ∙ ap (λ (c : Command). record { text = text_of (answer (setting_of old) c (session_of old text)); end = Done })
     line in
     subst (λ (t : Transcript). FailsBehind out text t.text) (sym whole) (fails text)
@@ -249,7 +251,7 @@ module _ {S K : Type 0} (tells : S → Supply) (counts : S → ℕ) (written : K
         wrote = u.wrote;
         more = λ text.
             subst (λ (x : Transcript). Grows (text ++ u.put) x.text) (sym (u.is text l.rest))
-            (told-grows d (text ++ u.put) most u.line l.rest);
+            (told_from-Grows d (text ++ u.put) most u.line l.rest);
       }
 
   -- the script has ended
@@ -313,10 +315,10 @@ module _ {S K : Type 0} (tells : S → Supply) (counts : S → ℕ) (written : K
         is = λ text.
             FailsBehind-underway (b ∷ []) text l.rest
             ∙ (ap (λ (n : ℕ). told_from d (text ++ u.put) n u.line (b ∷ l.rest)) none
-            ∙ told-large d (text ++ u.put) b u.line l.rest u.pending_is.line);
+            ∙ told_from-too_large d (text ++ u.put) b u.line l.rest u.pending_is.line);
         alone = λ text.
             by-itself (u.taken ++ b ∷ []) text
             ∙ (FailsBehind-underway (b ∷ []) text []
             ∙ (ap (λ (n : ℕ). told_from d (text ++ u.put) n u.line (b ∷ [])) none
-            ∙ told-large d (text ++ u.put) b u.line [] u.pending_is.line));
+            ∙ told_from-too_large d (text ++ u.put) b u.line [] u.pending_is.line));
       }

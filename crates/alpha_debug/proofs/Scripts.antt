@@ -17,7 +17,8 @@ use Rattle.alpha_debug.specs.OutputChange.{OutputChange, output_change_by, Appen
 use Rattle.alpha_debug.specs.Effects.{FailsBehind, session_of, setting_of, left_by, Answers, AnswerFails, IsPendingLine}
 use Rattle.alpha_debug.specs.Effects.{told_from, told_after, FeedsBytes, FeedFails}
 use Rattle.alpha_debug.proofs.SinkEffects.{FailsBehind-more, FailsBehind-after, AppendsOutput-both}
-use Rattle.alpha_debug.proofs.ScriptLines.{LineHasNoFeed, told-other, told-feed, told-over, held-line, answers-grows}
+use Rattle.alpha_debug.proofs.ScriptLines.{LineHasNoFeed, told_from-other_byte, told_from-line_feed}
+use Rattle.alpha_debug.proofs.ScriptLines.{closed-over_session, command_of-held_line, answers-grows}
 
 -- ---- no bytes
 
@@ -44,13 +45,14 @@ after-feed : (talk : SessionState) (old new : Debugger) (text : List ℕ) (n : �
 after-feed Continues old new text n rest same =
     ap (λ (g : Setting). closed n rest (answers g (session_of new text) (lines_within n [] rest))) (sym same)
 after-feed Quits old new text n rest same =
-    told-over (setting_of old) n rest (lines_within n [] rest) (left_by Quits new text) refl
+    closed-over_session (setting_of old) n rest (lines_within n [] rest) (left_by Quits new text) refl
 
 -- the line that is handed on is answered as the line in hand
 pub line-command : (begun held line : List ℕ) → IsPendingLine begun held → line ≡ strip_carriage_return held
     → command_of line ≡ command_of (strip_carriage_return begun)
 line-command begun held line is_held e =
-    ap command_of e ∙ (ap (λ (l : List ℕ). command_of (strip_carriage_return l)) is_held.front ∙ held-line begun)
+    ap command_of e
+    ∙ (ap (λ (l : List ℕ). command_of (strip_carriage_return l)) is_held.front ∙ command_of-held_line begun)
 
 pub FeedsBytes-line_feed : (begun held line : List ℕ) (talk : SessionState) (old new : Debugger) (out : OutputChange)
     → IsPendingLine begun held → line ≡ strip_carriage_return held → setting_of new ≡ setting_of old
@@ -64,7 +66,7 @@ FeedsBytes-line_feed begun held line talk old new out is_held e same answers_is 
       let n : ℕ = most - 1 in
       let next : most ≡ suc n = omega arith in
       ap (λ (m : ℕ). told_from old text m begun (10 ∷ rest)) next
-      ∙ (told-feed old text n begun rest is_held.line
+      ∙ (told_from-line_feed old text n begun rest is_held.line
       ∙ (ap (λ (c : Command). closed n rest
       (answers (setting_of old) (answer (setting_of old) c (session_of old text)) (lines_within n [] rest)))
       (sym (line-command begun held line is_held e))
@@ -82,7 +84,7 @@ line_feed-FeedFails begun held line old out is_held e fails text most rest l =
     let s : Session = answer g (command_of line) (session_of old text) in
     let whole : told_from old text most begun (10 ∷ rest) ≡ closed n rest (answers g s (lines_within n [] rest)) =
     ap (λ (m : ℕ). told_from old text m begun (10 ∷ rest)) next
-    ∙ (told-feed old text n begun rest is_held.line
+    ∙ (told_from-line_feed old text n begun rest is_held.line
     ∙ ap (λ (c : Command). closed n rest (answers g (answer g c (session_of old text)) (lines_within n [] rest)))
     (sym (line-command begun held line is_held e))) in
     subst (λ (t : Transcript). FailsBehind out text t.text) (sym whole)
@@ -94,9 +96,9 @@ line_feed-FeedFails begun held line old out is_held e fails text most rest l =
 all-one : (b : ℕ) → (b == 10) ≡ false → LineHasNoFeed (b ∷ [])
 all-one b other = All-cons (λ x. (x == 10) ≡ false) b [] other (λ k d l. absurd (omega arith))
 
-pub held_other : (b : ℕ) (begun held : List ℕ) → (b == 10) ≡ false → LineHasNoFeed begun
+pub IsPendingLine-other_byte : (b : ℕ) (begun held : List ℕ) → (b == 10) ≡ false → LineHasNoFeed begun
     → held ≡ take 1026 (begun ++ b ∷ []) → IsPendingLine (begun ++ b ∷ []) held
-held_other b begun held other line front =
+IsPendingLine-other_byte b begun held other line front =
     record { front = front; line = All-append (λ x. (x == 10) ≡ false) begun (b ∷ []) line (all-one b other) }
 
 pub FeedsBytes-other_byte : (b : ℕ) (begun held : List ℕ) (d : Debugger) (out : OutputChange) → (b == 10) ≡ false
@@ -106,19 +108,20 @@ FeedsBytes-other_byte b begun held d out other line front none = record {
   put = [];
   line = begun ++ b ∷ [];
   wrote = none;
-  pending_is = held_other b begun held other line front;
+  pending_is = IsPendingLine-other_byte b begun held other line front;
   is = λ text most rest l.
       let n : ℕ = most - 1 in
       let next : most ≡ suc n = omega arith in
       ap (λ (m : ℕ). told_from d text m begun (b ∷ rest)) next
-      ∙ (told-other d text n b begun rest
+      ∙ (told_from-other_byte d text n b begun rest
       ∙ ap (λ (t : List ℕ). told_from d t n (begun ++ b ∷ []) rest) (sym (append-nil text)));
 }
 
 -- the front of a line with a byte more, which is held where there is room
-pub held_more : (b : ℕ) (begun held more : List ℕ) → held ≡ take 1026 begun → length held < 1026 → more ≡ held ++ b ∷ []
+pub held_prefix-push : (b : ℕ) (begun held more : List ℕ) → held ≡ take 1026 begun → length held < 1026
+    → more ≡ held ++ b ∷ []
     → more ≡ take 1026 (begun ++ b ∷ [])
-held_more b begun held more front room e =
+held_prefix-push b begun held more front room e =
     let size : length (take 1026 begun) < 1026 = subst (λ (l : List ℕ). length l < 1026) front room in
     let short : length begun < 1026 = omega (arith, size, length-take 1026 begun) in
     let all : held ≡ begun = front ∙ take_all 1026 begun (omega (arith, short)) in
@@ -126,9 +129,9 @@ held_more b begun held more front room e =
     ∙ (ap (λ (l : List ℕ). l ++ b ∷ []) all
     ∙ sym (take_all 1026 (begun ++ b ∷ []) (omega (arith, short, length-append begun (b ∷ [])))))
 
-pub held_full : (b : ℕ) (begun held : List ℕ) → held ≡ take 1026 begun → length held ≡ 1026
+pub held_prefix-full : (b : ℕ) (begun held : List ℕ) → held ≡ take 1026 begun → length held ≡ 1026
     → held ≡ take 1026 (begun ++ b ∷ [])
-held_full b begun held front full =
+held_prefix-full b begun held front full =
     let size : length (take 1026 begun) ≡ 1026 = ap length (sym front) ∙ full in
     let long : 1026 ≤ length begun = omega (arith, size, length-take 1026 begun) in
     front ∙ sym (take-append-le 1026 begun (b ∷ []) long)

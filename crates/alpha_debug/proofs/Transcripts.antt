@@ -5,7 +5,7 @@ use Rattle.alpha_image.specs.Parts.{Parts}
 use Rattle.alpha_shadow.specs.declared.broken.Broken.{Broken}
 use Rattle.alpha_shadow.specs.Broken.{IsAccepted}
 use Rattle.alpha_shadow.specs.Least.{IsLeastBroken}
-use Rattle.alpha_shadow.proofs.Decided.{accepted_or_broken}
+use Rattle.alpha_shadow.proofs.Decided.{IsAccepted-or_IsLeastBroken}
 use Rattle.alpha_seq.specs.State.{Program}
 use Rattle.alpha_debug.specs.Session.{Setting, IsVerdict}
 use Rattle.alpha_debug.specs.Script.{Transcript, IsTranscript, transcript}
@@ -21,17 +21,17 @@ with_verdict image script v is = (
   record { setting = setting image v; is_setting = record { program = refl; verdict = is }; is = refl },
 )
 
-pub some_transcript : (image : Parts) (script : List ℕ) → (t : Transcript) × IsTranscript image script t
-some_transcript image script =
+pub IsTranscript-exists : (image : Parts) (script : List ℕ) → (t : Transcript) × IsTranscript image script t
+IsTranscript-exists image script =
     ⊎_elim
     (λ (accepted : IsAccepted image.words). with_verdict image script None accepted)
     (λ (broken : (b : Broken) × IsLeastBroken image.words b). with_verdict image script (Some broken.0) broken.1)
-    (accepted_or_broken image.words)
+    (IsAccepted-or_IsLeastBroken image.words)
 
-pub one_transcript : (image : Parts) (script : List ℕ) (t u : Transcript) (p : IsTranscript image script t)
+pub IsTranscript-unique : (image : Parts) (script : List ℕ) (t u : Transcript) (p : IsTranscript image script t)
     (q : IsTranscript image script u)
     → p.setting.verdict ≡ q.setting.verdict → t ≡ u
-one_transcript image script t u p q same =
+IsTranscript-unique image script t u p q same =
     let program : p.setting.program ≡ q.setting.program = p.is_setting.program ∙ sym q.is_setting.program in
     p.is
     ∙ (ap (λ (g : Program). transcript (record { program = g; verdict = p.setting.verdict }) script) program

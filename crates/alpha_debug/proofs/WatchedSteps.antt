@@ -24,7 +24,7 @@ use Rattle.alpha_debug.specs.OutputChange.{put_for, waits_for}
 use Rattle.alpha_debug.specs.Watched.{was_put, put_behind, waits_behind, watched_lines, watched_after, watched_stops}
 use Rattle.alpha_debug.specs.Watched.{all_steps, room_for, watched_room, watches}
 use Rattle.alpha_debug.proofs.SinkEffects.{both-whole}
-use Rattle.alpha_debug.proofs.BlockContents.{all_for}
+use Rattle.alpha_debug.proofs.BlockContents.{put_for-waits_for}
 
 -- ---- what is put and what waits
 
@@ -36,7 +36,7 @@ put-within : (waits : List ℕ) (mem : List Block) (addr len : ℕ) (bytes : Lis
 put-within waits mem addr len bytes e is =
     let all : List ℕ = bytes_at mem addr len in
     ap (λ (l : List ℕ). waits ++ l) is
-    ∙ (all_for waits all
+    ∙ (put_for-waits_for waits all
     ∙ ap (λ (b : Bool). cond b (put_for waits all) [] ++ cond b (waits_for waits all) waits) (sym e))
 
 none-put : (waits bytes : List ℕ) → bytes ≡ [] → waits ++ bytes ≡ waits
@@ -66,14 +66,14 @@ row-bytes w (p ∷ ps) old new row =
     (row-bytes v ps row.0 new row.2)
 
 -- it is as before but for what waits and whether the program has put something
-pub seen-kept : (w : Watcher) (ps : List StepLabel)
+pub seen_by-watched_after : (w : Watcher) (ps : List StepLabel)
     → seen_by watched_after w ps
     ≡ record w {
       block = (seen_by watched_after w ps).block;
       has_put = (seen_by watched_after w ps).has_put;
     }
-seen-kept w [] = refl
-seen-kept w (p ∷ ps) = seen-kept (watched_after w p.event p.core) ps
+seen_by-watched_after w [] = refl
+seen_by-watched_after w (p ∷ ps) = seen_by-watched_after (watched_after w p.event p.core) ps
 
 -- ---- whether the program has put something
 

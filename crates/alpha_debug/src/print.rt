@@ -189,7 +189,7 @@ fn print_code_lines<K: Sink>(
 }
 
 // The address of a code word, and the canonical line of its instruction.
-#[tactic(auto, using(crate::proofs::RowTexts::line_at), unfolding(crate::specs::Lines::code_line))]
+#[tactic(auto, using(crate::proofs::RowTexts::canon_of_decoded), unfolding(crate::specs::Lines::code_line))]
 fn code_line(image: &Image, place: u32) -> Line
     requires { place < length image.now.words }
     ensures { result

@@ -39,9 +39,9 @@ hex_digits_onto-last most n written last =
     ∙ by_last (most + 47) n written true (eq-eqb (n / 16) 0 (omega arith))
 
 -- a number with a second digit has room for it
-pub second_digit : (at n : ℕ) → 16 ≤ n → n < 16 ^ (at + 1) → 0 < at
-second_digit zero n more within = absurd (omega arith)
-second_digit (suc at) n more within = omega arith
+pub hex_digits-second_has_room : (at n : ℕ) → 16 ≤ n → n < 16 ^ (at + 1) → 0 < at
+hex_digits-second_has_room zero n more within = absurd (omega arith)
+hex_digits-second_has_room (suc at) n more within = omega arith
 
 -- without its last digit it has one less
 pub fewer_digits : (at n : ℕ) → n < 16 ^ (at + 1) → n / 16 < 16 ^ at

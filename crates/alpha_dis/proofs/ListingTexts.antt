@@ -98,16 +98,16 @@ values-more bytes n a some within =
 -- ---- the segments
 
 -- a segment by its numbers and its share of the bytes
-pub piece_at : (segments : List Segment) (bytes : List ℕ) (n : ℕ) (s : Segment) (share : List ℕ)
+pub slice_get-piece_of : (segments : List Segment) (bytes : List ℕ) (n : ℕ) (s : Segment) (share : List ℕ)
     → slice_get segments n ≡ Some s
     → option_map (λ piece. piece.bytes) (slice_get (pieces_of segments bytes) n) ≡ Some share
     → slice_get (pieces_of segments bytes) n ≡ Some (piece_of s share)
-piece_at [] bytes n s share e f = absurd cc
-piece_at (t ∷ rest) bytes zero s share e f =
+slice_get-piece_of [] bytes n s share e f = absurd cc
+slice_get-piece_of (t ∷ rest) bytes zero s share e f =
     let same : t ≡ s = cc in
     let bytes : take t.filled bytes ≡ share = cc in
     λ i. Some (piece_of (same i) (bytes i))
-piece_at (t ∷ rest) bytes (suc n) s share e f = piece_at rest (drop t.filled bytes) n s share e f
+slice_get-piece_of (t ∷ rest) bytes (suc n) s share e f = slice_get-piece_of rest (drop t.filled bytes) n s share e f
 
 -- the lines of a segment are three parts
 pub text-piece_lines : (version : Version) (piece : Piece) → text (piece_lines version piece)

@@ -12,7 +12,7 @@ use Rattle.alpha_shadow.specs.declared.broken.Condition.TheVariants.{WildBase, L
 use Rattle.alpha_shadow.specs.Code.{kind_at}
 use Rattle.alpha_shadow.specs.Broken.{IsBroken, IsAccepted}
 use Rattle.alpha_shadow.proofs.WordColumns.{kind_within, no_access, no_set}
-use Rattle.alpha_shadow.proofs.Decided.{not_past_end}
+use Rattle.alpha_shadow.proofs.Decided.{IsBroken-not_past_end}
 use Rattle.alpha_fix.specs.Cuts.{BreaksAbove, IsNextCut, AreCutsAbove, AreCuts, trapb, barred_from, barred, without}
 use Rattle.alpha_fix.specs.Cuts.{HasBroken, NoneAlone}
 use Rattle.alpha_fix.proofs.StretchesAlike.{LooksAlike-same_word, Stretch, broken_along}
@@ -171,7 +171,8 @@ barrier_sound code t at Long k b = b.holds.2 k
 
 pub broken_within : (code : List ℕ) (t at : ℕ) (c : Condition) → IsBroken code t at c → at ≤ length code
 broken_within code t at c b =
-    ⊎_elim (λ (past : length code < at). absurd (not_past_end code t at c past b)) (λ (l : at ≤ length code). l)
+    ⊎_elim (λ (past : length code < at). absurd (IsBroken-not_past_end code t at c past b))
+    (λ (l : at ≤ length code). l)
     (cases_lt (length code) at)
 
 pub cut_within : (code : List ℕ) (from cut : ℕ) → IsNextCut code from cut → cut ≤ length code

@@ -220,23 +220,23 @@ some_and : {A : Type 0} (P : A → Type 0) (o : Option A) → IsSomeAnd o P → 
 some_and P None h = h
 some_and P (Some x) h = tt
 
-pub words_classes : (level : Level) (ws : List ℕ) → All (IsCodeWord level) ws
+pub word_class-filter_map_decoded : (level : Level) (ws : List ℕ) → All (IsCodeWord level) ws
     → map word_class ws ≡ map (λ c. Some c) (map form_class (filter_map decoded ws))
-words_classes level [] a = refl
-words_classes level (w ∷ ws) a =
+word_class-filter_map_decoded level [] a = refl
+word_class-filter_map_decoded level (w ∷ ws) a =
     word_step (decoded w) w ws level refl
     (some_and _ (decoded w) ((level_in-decoded level w).0 (All-head (IsCodeWord level) w ws a).1))
-    (words_classes level ws (All-tail (IsCodeWord level) w ws a))
+    (word_class-filter_map_decoded level ws (All-tail (IsCodeWord level) w ws a))
 
 length_step : (o : Option Form) (rest : List ℕ) → IsSomeAnd o (λ i. Unit {0})
     → length (cons_option o (filter_map decoded rest)) ≡ suc (length (filter_map decoded rest))
 length_step None rest s = absurd s
 length_step (Some f) rest s = refl
 
-pub words_length : (level : Level) (ws : List ℕ) → All (IsCodeWord level) ws
+pub length-filter_map_decoded : (level : Level) (ws : List ℕ) → All (IsCodeWord level) ws
     → length (filter_map decoded ws) ≡ length ws
-words_length level [] a = refl
-words_length level (w ∷ ws) a =
+length-filter_map_decoded level [] a = refl
+length-filter_map_decoded level (w ∷ ws) a =
     length_step (decoded w) ws
     (some_and _ (decoded w) ((level_in-decoded level w).0 (All-head (IsCodeWord level) w ws a).1))
-    ∙ ap suc (words_length level ws (All-tail (IsCodeWord level) w ws a))
+    ∙ ap suc (length-filter_map_decoded level ws (All-tail (IsCodeWord level) w ws a))

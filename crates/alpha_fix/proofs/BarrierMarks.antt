@@ -125,19 +125,23 @@ part_barred code from [] r = refl
 part_barred code from (cut ∷ cuts) (l, r) =
     let e : from + (cut - from) ≡ cut = omega arith in
     ap (λ t. take (cut - from) (drop from code) ++ trapb ∷ t)
-    (ap (λ (d : List ℕ). words_with_barriers cut d cuts) (drop-drop (cut - from) from code ∙ ap (λ (i : ℕ). drop i code) e)
+    (ap (λ (d : List ℕ). words_with_barriers cut d cuts)
+    (drop-drop (cut - from) from code ∙ ap (λ (i : ℕ). drop i code) e)
     ∙ part_barred code cut cuts (rise-less (cut + 1) cut cuts (omega arith) r))
 
-part_step : (k w : ℕ) (ws cuts : List ℕ) → Rise (k + 1) cuts → words_with_barriers k (w ∷ ws) cuts ≡ w ∷ words_with_barriers (k + 1) ws cuts
+part_step : (k w : ℕ) (ws cuts : List ℕ) → Rise (k + 1) cuts
+    → words_with_barriers k (w ∷ ws) cuts ≡ w ∷ words_with_barriers (k + 1) ws cuts
 part_step k w ws [] r = refl
 part_step k w ws (cut ∷ cuts) (l, r) =
     let e : cut - k ≡ suc (cut - (k + 1)) = omega arith in
     ap (λ (i : ℕ). take i (w ∷ ws) ++ trapb ∷ words_with_barriers cut (drop i (w ∷ ws)) cuts) e
 
-same_here : (k cut : ℕ) (ws cuts : List ℕ) → k ≡ cut → words_with_barriers k ws (cut ∷ cuts) ≡ trapb ∷ words_with_barriers k ws cuts
+same_here : (k cut : ℕ) (ws cuts : List ℕ) → k ≡ cut
+    → words_with_barriers k ws (cut ∷ cuts) ≡ trapb ∷ words_with_barriers k ws cuts
 same_here k cut ws cuts e =
     let z : cut - k ≡ 0 = omega arith in
-    ap (λ (i : ℕ). take i ws ++ trapb ∷ words_with_barriers cut (drop i ws) cuts) z ∙ ap (λ (i : ℕ). trapb ∷ words_with_barriers i ws cuts) (sym e)
+    ap (λ (i : ℕ). take i ws ++ trapb ∷ words_with_barriers cut (drop i ws) cuts) z
+    ∙ ap (λ (i : ℕ). trapb ∷ words_with_barriers i ws cuts) (sym e)
 
 onward_cut : (k v cut : ℕ) (ws cuts : List ℕ) → Rise (cut + 1) cuts → k ≡ cut
     → marked_to_end trapb (is_cut cuts) (k + 1) ws ≡ words_with_barriers (k + 1) ws cuts
@@ -156,7 +160,8 @@ onward_between : (k v cut : ℕ) (ws cuts : List ℕ) → Rise (cut + 1) cuts �
     → marked_to_end trapb (is_cut (cut ∷ cuts)) k (v ∷ ws) ≡ words_with_barriers k (v ∷ ws) (cut ∷ cuts)
 onward_between k v cut ws cuts r l h =
     marked_to_end-cons trapb (is_cut (cut ∷ cuts)) k v ws
-    ∙ (ap (λ b. bar_if b trapb ++ (v ∷ marked_to_end trapb (is_cut (cut ∷ cuts)) (k + 1) ws)) (earlier_cut cut k cuts r l)
+    ∙ (ap (λ b. bar_if b trapb ++ (v ∷ marked_to_end trapb (is_cut (cut ∷ cuts)) (k + 1) ws))
+    (earlier_cut cut k cuts r l)
     ∙ (ap (λ t. v ∷ t) h ∙ sym (part_step k v ws (cut ∷ cuts) (omega arith, r))))
 
 onward_part : (k : ℕ) (ws cuts : List ℕ) → Rise k cuts → AllWithin (k + length ws) cuts
@@ -167,7 +172,8 @@ onward_part k [] (cut ∷ []) (l, r) (m, w) =
     marked_to_end-nil trapb (is_cut (cut ∷ [])) k
     ∙ (ap (λ b. bar_if b trapb) (ap (is_cut (cut ∷ [])) e ∙ first_cut cut []) ∙ sym (same_here k cut [] [] e))
 onward_part k [] (cut ∷ second ∷ cuts) (l, r) (m, w) = let a = r.0 in let b = w.0 in absurd (omega arith)
-onward_part k (v ∷ ws) [] r w = marked_to_end-cons trapb (is_cut []) k v ws ∙ ap (λ t. v ∷ t) (onward_part (k + 1) ws [] tt tt)
+onward_part k (v ∷ ws) [] r w =
+    marked_to_end-cons trapb (is_cut []) k v ws ∙ ap (λ t. v ∷ t) (onward_part (k + 1) ws [] tt tt)
 onward_part k (v ∷ ws) (cut ∷ cuts) (l, r) (m, w) =
     let e : k + suc (length ws) ≡ k + 1 + length ws = omega arith in
     ⊎_elim

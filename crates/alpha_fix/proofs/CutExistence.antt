@@ -7,12 +7,12 @@ use Rattle.alpha_shadow.specs.declared.broken.Broken.{Broken}
 use Rattle.alpha_shadow.specs.Broken.{IsAccepted}
 use Rattle.alpha_shadow.specs.Least.{IsLeastBroken, condition_number}
 use Rattle.alpha_shadow.proofs.ConditionNumbers.{condition_number-injective}
-use Rattle.alpha_shadow.proofs.Decided.{accepted_or_broken}
+use Rattle.alpha_shadow.proofs.Decided.{IsAccepted-or_IsLeastBroken}
 use Rattle.alpha_fix.specs.Cuts.{AreCuts, NoneAlone, NoneFrom, IsLeastFrom}
 use Rattle.alpha_fix.specs.Fix.{IsLeastAlone}
-use Rattle.alpha_fix.proofs.CutSteps.{CutsUpTo, CutsUpTo-start, cuts-continue, next_cut-decreases, ends_cuts}
-use Rattle.alpha_fix.proofs.CutSteps.{ends_alone, least_alone}
-use Rattle.alpha_fix.proofs.CutSteps.{none_from, least_from}
+use Rattle.alpha_fix.proofs.CutSteps.{CutsUpTo, CutsUpTo-start, CutsUpTo-next, next_cut-decreases, CutsUpTo-AreCuts}
+use Rattle.alpha_fix.proofs.CutSteps.{CutsUpTo-NoneAlone, CutsUpTo-IsLeastAlone}
+use Rattle.alpha_fix.proofs.CutSteps.{NoneFrom-accepted_suffix, least_from}
 
 -- cuts and no trigger that is broken at its own place, or the first such trigger
 abbrev pub HasCutOutcome : List ℕ → Type 0
@@ -21,24 +21,25 @@ HasCutOutcome code = (NoneAlone code × ((cuts : List ℕ) × AreCuts code cuts)
 from_here : (code : List ℕ) (from : ℕ) → from ≤ length code
     → NoneFrom code from ⊎ ((b : Broken) × IsLeastFrom code from b)
 from_here code from within = ⊎_elim
-    (λ (a : IsAccepted (drop from code)). inl (none_from code (drop from code) from within refl a))
+    (λ (a : IsAccepted (drop from code)). inl (NoneFrom-accepted_suffix code (drop from code) from within refl a))
     (λ (b : (b : Broken) × IsLeastBroken (drop from code) b). inr (
       record { trigger = from + b.0.trigger; at = from + b.0.at; condition = b.0.condition },
       least_from code (drop from code) from b.0 within refl b.1,
     ))
-    (accepted_or_broken (drop from code))
+    (IsAccepted-or_IsLeastBroken (drop from code))
 
 cuts_from : (fuel : ℕ) (code cuts : List ℕ) (from : ℕ) → length code - from < fuel → CutsUpTo code cuts from
     → HasCutOutcome code
 cuts_from zero code cuts from h cut = absurd (omega arith)
 cuts_from (suc fuel) code cuts from h cut = ⊎_elim
-    (λ (none : NoneFrom code from). inl (ends_alone code cuts from cut none, (cuts, ends_cuts code cuts from cut none)))
+    (λ (none : NoneFrom code from).
+    inl (CutsUpTo-NoneAlone code cuts from cut none, (cuts, CutsUpTo-AreCuts code cuts from cut none)))
     (λ (b : (b : Broken) × IsLeastFrom code from b). ⊎_elim
-    (λ (e : b.0.at ≡ b.0.trigger). inr (b.0, least_alone code cuts from b.0 cut b.1 e))
+    (λ (e : b.0.at ≡ b.0.trigger). inr (b.0, CutsUpTo-IsLeastAlone code cuts from b.0 cut b.1 e))
     (λ (apart : b.0.at ≡ b.0.trigger → ⊥).
     let f = next_cut-decreases code from b.0 b.1 apart in
     cuts_from fuel code (cuts ++ b.0.at ∷ []) b.0.at (omega arith)
-    (cuts-continue code cuts (cuts ++ b.0.at ∷ []) from b.0 cut b.1 apart refl))
+    (CutsUpTo-next code cuts (cuts ++ b.0.at ∷ []) from b.0 cut b.1 apart refl))
     (cases_eq b.0.at b.0.trigger))
     (from_here code from cut.within)
 
@@ -51,8 +52,8 @@ same_broken b c e f g =
     ∙ (ap (λ (a : ℕ). record b { trigger = c.trigger; at = a }) f
     ∙ ap (λ (d : Condition). record c { condition = d }) g)
 
-pub one_alone : (code : List ℕ) (b c : Broken) → IsLeastAlone code b → IsLeastAlone code c → b ≡ c
-one_alone code b c f g =
+pub IsLeastAlone-unique : (code : List ℕ) (b c : Broken) → IsLeastAlone code b → IsLeastAlone code c → b ≡ c
+IsLeastAlone-unique code b c f g =
     let p = f.least c.trigger c.condition g.broken in
     let q = g.least b.trigger b.condition f.broken in
     let e : b.trigger ≡ c.trigger = ⊎_elim

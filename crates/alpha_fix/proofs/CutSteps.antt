@@ -14,9 +14,10 @@ use Rattle.alpha_fix.proofs.BarredCode.{Stretch-from_suffix, Stretch-to_suffix, 
 
 -- the rest of the code, judged by itself
 
-pub none_from : (code rest : List ℕ) (from : ℕ) → from ≤ length code → rest ≡ drop from code → IsAccepted rest
+pub NoneFrom-accepted_suffix : (code rest : List ℕ) (from : ℕ) → from ≤ length code → rest ≡ drop from code
+    → IsAccepted rest
     → NoneFrom code from
-none_from code rest from within e accepted trigger at c since b =
+NoneFrom-accepted_suffix code rest from within e accepted trigger at c since b =
     subst IsAccepted e accepted (trigger - from) (at - from) c
     (broken_along code trigger at (drop from code) (trigger - from) (at - from)
     (Stretch-to_suffix code from trigger at within since b.order) c b)
@@ -76,9 +77,9 @@ pub record CutsUpTo (code cuts : List ℕ) (from : ℕ) : Type 0 where
 pub CutsUpTo-start : (code : List ℕ) → CutsUpTo code [] 0
 CutsUpTo-start code = record { within = omega arith; further = λ rest are. are; alone = λ place c h b. omega arith }
 
-pub next_cut : (code : List ℕ) (from : ℕ) (b : Broken) → IsLeastFrom code from b → (b.at ≡ b.trigger → ⊥)
+pub IsNextCut-least : (code : List ℕ) (from : ℕ) (b : Broken) → IsLeastFrom code from b → (b.at ≡ b.trigger → ⊥)
     → IsNextCut code from b.at
-next_cut code from b l apart =
+IsNextCut-least code from b l apart =
     let o = l.broken.order in
     let since = l.since in
     let above : from < b.at = ⊎_elim (λ (k : b.trigger < b.at). omega arith)
@@ -90,14 +91,14 @@ next_cut code from b l apart =
           (l.least h.trigger at h.condition h.since h.broken);
     }
 
-pub cuts-continue : (code cuts more : List ℕ) (from : ℕ) (b : Broken) → CutsUpTo code cuts from
+pub CutsUpTo-next : (code cuts more : List ℕ) (from : ℕ) (b : Broken) → CutsUpTo code cuts from
     → IsLeastFrom code from b → (b.at ≡ b.trigger → ⊥)
     → more ≡ cuts ++ b.at ∷ [] → CutsUpTo code more b.at
-cuts-continue code cuts more from b cut l apart e = record {
+CutsUpTo-next code cuts more from b cut l apart e = record {
   within = broken_within code b.trigger b.at b.condition l.broken;
   further = λ rest are.
       subst (λ (c : List ℕ). AreCuts code c) (sym (append_assoc cuts (b.at ∷ []) rest) ∙ ap (λ c. c ++ rest) (sym e))
-      (cut.further (b.at ∷ rest) (next_cut code from b l apart, are));
+      (cut.further (b.at ∷ rest) (IsNextCut-least code from b l apart, are));
   alone = λ place c below h. ⊎_elim
       (λ (k : place < from). cut.alone place c k h)
       (λ (k : from ≤ place). ⊎_elim (λ (m : b.at < place). omega arith) (λ m. let f : b.at ≡ place = m.0 in omega arith)
@@ -105,19 +106,21 @@ cuts-continue code cuts more from b cut l apart e = record {
       (cases_lt place from);
 }
 
-pub ends_cuts : (code cuts : List ℕ) (from : ℕ) → CutsUpTo code cuts from → NoneFrom code from → AreCuts code cuts
-ends_cuts code cuts from cut none =
+pub CutsUpTo-AreCuts : (code cuts : List ℕ) (from : ℕ) → CutsUpTo code cuts from → NoneFrom code from
+    → AreCuts code cuts
+CutsUpTo-AreCuts code cuts from cut none =
     subst (λ (c : List ℕ). AreCuts code c) (append-nil cuts)
     (cut.further [] (λ at h. none h.trigger at h.condition h.since h.broken))
 
-pub ends_alone : (code cuts : List ℕ) (from : ℕ) → CutsUpTo code cuts from → NoneFrom code from → NoneAlone code
-ends_alone code cuts from cut none place c h =
+pub CutsUpTo-NoneAlone : (code cuts : List ℕ) (from : ℕ) → CutsUpTo code cuts from → NoneFrom code from → NoneAlone code
+CutsUpTo-NoneAlone code cuts from cut none place c h =
     ⊎_elim (λ (k : place < from). cut.alone place c k h) (λ (k : from ≤ place). none place place c k h)
     (cases_lt place from)
 
-pub least_alone : (code cuts : List ℕ) (from : ℕ) (b : Broken) → CutsUpTo code cuts from → IsLeastFrom code from b
+pub CutsUpTo-IsLeastAlone : (code cuts : List ℕ) (from : ℕ) (b : Broken) → CutsUpTo code cuts from
+    → IsLeastFrom code from b
     → b.at ≡ b.trigger → IsLeastAlone code b
-least_alone code cuts from b cut l e = record {
+CutsUpTo-IsLeastAlone code cuts from b cut l e = record {
   place = e;
   broken = subst (λ n. IsBroken code b.trigger n b.condition) e l.broken;
   least = λ place c h. ⊎_elim
@@ -129,7 +132,7 @@ least_alone code cuts from b cut l e = record {
 pub next_cut-decreases : (code : List ℕ) (from : ℕ) (b : Broken) → IsLeastFrom code from b → (b.at ≡ b.trigger → ⊥)
     → length code - b.at < length code - from
 next_cut-decreases code from b l apart =
-    let n = next_cut code from b l apart in
+    let n = IsNextCut-least code from b l apart in
     let above = n.breaks.above in
     let w = broken_within code b.trigger b.at b.condition l.broken in
     omega arith

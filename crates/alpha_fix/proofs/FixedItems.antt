@@ -13,7 +13,8 @@ use Rattle.alpha_asm.specs.SourceLines.{line_item}
 use Rattle.alpha_fix.specs.FixedSource.{is_cut, trapb_line, has_insn, has_word, word_count, bar_if, then_bar}
 use Rattle.alpha_fix.specs.FixedSource.{fixed_lines, fixed_source}
 use Rattle.alpha_fix.specs.FixedLines.{items_of}
-use Rattle.alpha_asm.proofs.SourceLines.{source_lines-joined, texts_of, HasNoLineFeed, AreLines, lines_back, lines_are}
+use Rattle.alpha_asm.proofs.SourceLines.{source_lines-joined, lines-source_lines, HasNoLineFeed, AreLines}
+use Rattle.alpha_asm.proofs.SourceLines.{source_lines-line_bytes, source_lines-AreLines}
 
 abbrev pub trapb_stmt : Stmt
 trapb_stmt = code (Misc Trapb)
@@ -84,13 +85,14 @@ unended_are false c m b t r1 r2 n a e f = (n, f)
 unended_are true c true b t r1 r2 n a e f = bar_are c _ (n, (trapb_clean, a))
 unended_are true c false b t r1 r2 n a e f = bar_are c _ (n, e)
 
-pub fixed_are : (cut : ℕ → Bool) (n k : ℕ) (ls : List SourceLine) → AreLines ls → AreLines (fixed_lines cut n k ls)
-fixed_are cut n k [] a = tt
-fixed_are cut n k (ended t ∷ ls) (c, a) =
+pub fixed_lines-AreLines : (cut : ℕ → Bool) (n k : ℕ) (ls : List SourceLine) → AreLines ls
+    → AreLines (fixed_lines cut n k ls)
+fixed_lines-AreLines cut n k [] a = tt
+fixed_lines-AreLines cut n k (ended t ∷ ls) (c, a) =
     ended_are (has_word (ended t)) (cut k) (nat_eq (k + 1) n && cut n) t (fixed_lines cut n (k + 1) ls)
-    (fixed_lines cut n k ls) c (fixed_are cut n (k + 1) ls a) (fixed_are cut n k ls a)
-fixed_are cut n k (unended [] ∷ ls) a = absurd a
-fixed_are cut n k (unended (b ∷ t) ∷ ls) (c, e) =
+    (fixed_lines cut n k ls) c (fixed_lines-AreLines cut n (k + 1) ls a) (fixed_lines-AreLines cut n k ls a)
+fixed_lines-AreLines cut n k (unended [] ∷ ls) a = absurd a
+fixed_lines-AreLines cut n k (unended (b ∷ t) ∷ ls) (c, e) =
     unended_are (has_word (unended (b ∷ t))) (cut k) (nat_eq (k + 1) n && cut n) b t (fixed_lines cut n (k + 1) ls)
     (fixed_lines cut n k ls) c
     (subst (λ (l : List SourceLine). AreLines (fixed_lines cut n (k + 1) l)) (sym e) tt)
@@ -98,7 +100,7 @@ fixed_are cut n k (unended (b ∷ t) ∷ ls) (c, e) =
 
 -- the items of a source's lines
 pub items_by_lines : (s : List ℕ) → items_of s ≡ map line_item (source_lines s)
-items_by_lines s = ap (map item_at) (texts_of s) ∙ map-map item_at line_text (source_lines s)
+items_by_lines s = ap (map item_at) (lines-source_lines s) ∙ map-map item_at line_text (source_lines s)
 
 pub items_of_fixed : line_item trapb_line ≡ trapb_item → (source cuts : List ℕ) → EndsAlike (source_lines source)
     → items_of (fixed_source source cuts) ≡ fixed_items (is_cut cuts) (word_count source) 0 (items_of source)
@@ -107,7 +109,8 @@ items_of_fixed reads source cuts a =
     let ls : List SourceLine = fixed_lines (is_cut cuts) (word_count source) 0 (source_lines source) in
     items_by_lines (flat_map line_bytes ls)
     ∙ (ap (map line_item)
-    (lines_back ls (fixed_are (is_cut cuts) (word_count source) 0 (source_lines source) (lines_are source)))
+    (source_lines-line_bytes ls
+    (fixed_lines-AreLines (is_cut cuts) (word_count source) 0 (source_lines source) (source_lines-AreLines source)))
     ∙ (items_of_lines reads (is_cut cuts) (word_count source) 0 (source_lines source) a
     ∙ ap (fixed_items (is_cut cuts) (word_count source) 0) (sym (items_by_lines source))))
 

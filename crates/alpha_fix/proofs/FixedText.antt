@@ -20,7 +20,7 @@ use Rattle.alpha_fix.specs.FixedSource.{fixed_lines, fixed_source}
 use Rattle.alpha_fix.specs.FixedLines.{items_of, depends_on_position, least_line, names_code, code_base, fixed_line}
 use Rattle.alpha_asm.specs.SourceLines.{Is, IsFirst}
 use Rattle.alpha_fix.specs.Lines.{role}
-use Rattle.alpha_asm.proofs.SourceLines.{texts_of}
+use Rattle.alpha_asm.proofs.SourceLines.{lines-source_lines}
 use Rattle.alpha_fix.proofs.FixedItems.{items_by_lines}
 use Rattle.alpha_fix.proofs.BarrierMarks.{below_cuts}
 use Rattle.alpha_fix.proofs.SourcePrograms.{AllRead, all_read}
@@ -64,7 +64,7 @@ TextUnderway-start source cuts words base b w r t = record {
   free =
       ap (λ (n : ℕ). least_line (is_position_dependent source n) 1 (map line_item (source_lines source))) b
       ∙ ap (least_line (is_position_dependent source (code_base (items_of source))) 1) (sym (items_by_lines source));
-  read = subst AllRead (texts_of source) (all_read [] (lines source) t);
+  read = subst AllRead (lines-source_lines source) (all_read [] (lines source) t);
   size = omega arith;
 }
 
@@ -266,16 +266,16 @@ empty-from_length : (xs : List ℕ) → length xs ≡ 0 → xs ≡ []
 empty-from_length [] h = refl
 empty-from_length (x ∷ xs) h = absurd (omega arith)
 
-pub ends_whole : (source cuts : List ℕ) (words base : ℕ) (rest text left : List ℕ) (number place : ℕ)
+pub TextUnderway-end_whole : (source cuts : List ℕ) (words base : ℕ) (rest text left : List ℕ) (number place : ℕ)
     → TextUnderway source cuts words base rest text left number place → length rest ≡ 0
     → text ≡ fixed_source source cuts
-ends_whole source cuts words base rest text left number place u h =
+TextUnderway-end_whole source cuts words base rest text left number place u h =
     sym (append-nil text)
     ∙ (ap (λ (r : List ℕ). text ++ flat_map line_bytes (fixed_lines (is_cut cuts) words place (source_lines r)))
     (sym (empty-from_length rest h)) ∙ u.whole)
 
-pub ends_free : (source cuts : List ℕ) (words base : ℕ) (rest text left : List ℕ) (number place : ℕ)
+pub TextUnderway-end_free : (source cuts : List ℕ) (words base : ℕ) (rest text left : List ℕ) (number place : ℕ)
     → TextUnderway source cuts words base rest text left number place → length rest ≡ 0 → fixed_line source ≡ None
-ends_free source cuts words base rest text left number place u h =
+TextUnderway-end_free source cuts words base rest text left number place u h =
     sym (ap (λ (r : List ℕ). least_line (is_position_dependent source base) number (map line_item (source_lines r)))
     (sym (empty-from_length rest h)) ∙ u.free)

@@ -36,7 +36,8 @@ unless_not true b e = rw e refl
 unless_not false b e = refl
 
 -- an instruction with half of an address that is none in its own way
-half_applies-no_offset : (of_code : List ℕ → Bool) (insn : Form) (r : Reference) → (is_zero r.offset && half_applies insn) ≡ true
+half_applies-no_offset : (of_code : List ℕ → Bool) (insn : Form) (r : Reference)
+    → (is_zero r.offset && half_applies insn) ≡ true
     → (has_offset of_code r ≡ false) × ((of_code r.label && not (half_applies insn)) ≡ false)
 half_applies-no_offset of_code insn r e =
     let (nothing, good) = and_parts (is_zero r.offset) (half_applies insn) e in

@@ -21,7 +21,8 @@ use Rattle.alpha_fix.proofs.FixedItems.{trapb_stmt, trapb_item, fixed_items}
 abbrev pub place_core : Place → Place
 place_core p = record p { words = 0; begun = false }
 
-pub place_core-place_after : (p q : Place) (s : Stmt) → place_core p ≡ place_core q → place_core (place_after p s) ≡ place_core (place_after q s)
+pub place_core-place_after : (p q : Place) (s : Stmt) → place_core p ≡ place_core q
+    → place_core (place_after p s) ≡ place_core (place_after q s)
 place_core-place_after p q s e = ap (λ (c : Place). place_core (place_after c s)) e
 
 -- the segment in hand of a place behind a barrier
@@ -41,7 +42,8 @@ same_segment s false =
 pub place_core-barrier : (p : Place) → place_core (place_after p trapb_stmt) ≡ place_core p
 unfolding cells
 place_core-barrier p =
-    ap (λ (s : Segment). record (place_core p) { last = s; has_zero = p.has_zero || false }) (same_segment p.last p.has_zero)
+    ap (λ (s : Segment). record (place_core p) { last = s; has_zero = p.has_zero || false })
+    (same_segment p.last p.has_zero)
     ∙ ap (λ (z : Bool). record (place_core p) { has_zero = z }) (or-false p.has_zero)
 
 abbrev pub placed_item : Place → ℕ → LineStmt → Placed
@@ -49,7 +51,8 @@ placed_item p line i = record { place = p; line = line; item = i }
 
 -- a search of what reads no more of places than their cores, and finds nothing in a barrier
 module _ {B : Type 0} (f : Placed → Option B)
-    (reads : (p q : Place) (m l : ℕ) (i : LineStmt) → place_core p ≡ place_core q → f (placed_item p m i) ≡ f (placed_item q l i))
+    (reads : (p q : Place) (m l : ℕ) (i : LineStmt) → place_core p ≡ place_core q
+    → f (placed_item p m i) ≡ f (placed_item q l i))
     (bars : (p : Place) (m : ℕ) → f (placed_item p m trapb_item) ≡ None) where
   skip : (x : Option B) (b : Bool) (is : List LineStmt) (q : Place) (l : ℕ)
       → ((r : Place) (m : ℕ) → place_core r ≡ place_core q → x ≡ first f (placed r m is))
@@ -59,7 +62,8 @@ module _ {B : Type 0} (f : Placed → Option B)
       h (place_after q trapb_stmt) (l + 1) (place_core-barrier q)
       ∙ sym (ap (λ o. option_or o (first f (placed (place_after q trapb_stmt) (l + 1) is))) (bars q l))
 
-  first_step : (h c m : Bool) (i : LineStmt) (is r1 r2 : List LineStmt) (p q : Place) (n l : ℕ) → place_core p ≡ place_core q
+  first_step : (h c m : Bool) (i : LineStmt) (is r1 r2 : List LineStmt) (p q : Place) (n l : ℕ)
+      → place_core p ≡ place_core q
       → ((s : Place) (k : ℕ) → place_core (place_after p i.statement) ≡ place_core s
       → first f (placed (place_after p i.statement) (n + 1) is) ≡ first f (placed s k r1))
       → ((s : Place) (k : ℕ) → place_core (place_after p i.statement) ≡ place_core s
@@ -68,7 +72,8 @@ module _ {B : Type 0} (f : Placed → Option B)
       ≡ first f (placed q l (cond h (bar_if c trapb_item ++ (i ∷ (bar_if m trapb_item ++ r1))) (i ∷ r2)))
   first_step false c m i is r1 r2 p q n l e g h =
       ap (λ o. option_or o (first f (placed (place_after p i.statement) (n + 1) is))) (reads p q n l i e)
-      ∙ ap (option_or (f (placed_item q l i))) (h (place_after q i.statement) (l + 1) (place_core-place_after p q i.statement e))
+      ∙ ap (option_or (f (placed_item q l i)))
+      (h (place_after q i.statement) (l + 1) (place_core-place_after p q i.statement e))
   first_step true c m i is r1 r2 p q n l e g h =
       skip (first f (placed p n (i ∷ is))) c (i ∷ (bar_if m trapb_item ++ r1)) q l (λ r k d.
       ap (λ o. option_or o (first f (placed (place_after p i.statement) (n + 1) is))) (reads p r n k i (e ∙ sym d))
@@ -76,7 +81,8 @@ module _ {B : Type 0} (f : Placed → Option B)
       (skip (first f (placed (place_after p i.statement) (n + 1) is)) m r1 (place_after r i.statement) (k + 1)
       (λ s j b. g s j (place_core-place_after p r i.statement (e ∙ sym d) ∙ sym b))))
 
-  pub first_same : (cut : ℕ → Bool) (words k : ℕ) (is : List LineStmt) (p q : Place) (n l : ℕ) → place_core p ≡ place_core q
+  pub first_same : (cut : ℕ → Bool) (words k : ℕ) (is : List LineStmt) (p q : Place) (n l : ℕ)
+      → place_core p ≡ place_core q
       → first f (placed p n is) ≡ first f (placed q l (fixed_items cut words k is))
   first_same cut words k [] p q n l e = refl
   first_same cut words k (i ∷ is) p q n l e =
@@ -88,7 +94,8 @@ module _ {B : Type 0} (f : Placed → Option B)
 -- the place behind the last item
 
 skip_end : (x : Place) (b : Bool) (is : List LineStmt) (q : Place)
-    → ((r : Place) → place_core r ≡ place_core q → x ≡ place_core (behind_all r is)) → x ≡ place_core (behind_all q (bar_if b trapb_item ++ is))
+    → ((r : Place) → place_core r ≡ place_core q → x ≡ place_core (behind_all r is))
+    → x ≡ place_core (behind_all q (bar_if b trapb_item ++ is))
 skip_end x false is q h = h q refl
 skip_end x true is q h = h (place_after q trapb_stmt) (place_core-barrier q)
 
@@ -123,7 +130,8 @@ blur_location (Data segment offset) = Data segment offset
 abbrev pub blurred_location : Option LabelLocation → Option LabelLocation
 blurred_location o = option_map blur_location o
 
-location-place_core : (s : Section) (p : Place) → blur_location (location_in s p) ≡ blur_location (location_in s (place_core p))
+location-place_core : (s : Section) (p : Place)
+    → blur_location (location_in s p) ≡ blur_location (location_in s (place_core p))
 location-place_core sections.Code p = refl
 location-place_core sections.Data p = refl
 
@@ -139,24 +147,30 @@ blurred_definition-reads : (name : List ℕ) (p q : Place) (m l : ℕ) (i : Line
     → blurred_definition name (placed_item p m i) ≡ blurred_definition name (placed_item q l i)
 blurred_definition-reads name p q m l i e = by (has_label name i.label)
   where
-    by : (b : Bool) → blurred_location (cond b (Some (location p)) None) ≡ blurred_location (cond b (Some (location q)) None)
+    by : (b : Bool)
+        → blurred_location (cond b (Some (location p)) None) ≡ blurred_location (cond b (Some (location q)) None)
     by true = ap (λ s. Some s) (location-same p q e)
     by false = refl
 
-blurred_location-or : (a b : Option LabelLocation) → blurred_location (option_or a b) ≡ option_or (blurred_location a) (blurred_location b)
+blurred_location-or : (a b : Option LabelLocation)
+    → blurred_location (option_or a b) ≡ option_or (blurred_location a) (blurred_location b)
 blurred_location-or None b = refl
 blurred_location-or (Some x) b = refl
 
-blurred_location-first : (f : Placed → Option LabelLocation) (xs : List Placed) → blurred_location (first f xs) ≡ first (λ x. blurred_location (f x)) xs
+blurred_location-first : (f : Placed → Option LabelLocation) (xs : List Placed)
+    → blurred_location (first f xs) ≡ first (λ x. blurred_location (f x)) xs
 blurred_location-first f [] = refl
-blurred_location-first f (x ∷ xs) = blurred_location-or (f x) (first f xs) ∙ ap (option_or (blurred_location (f x))) (blurred_location-first f xs)
+blurred_location-first f (x ∷ xs) =
+    blurred_location-or (f x) (first f xs) ∙ ap (option_or (blurred_location (f x))) (blurred_location-first f xs)
 
-pub locations_same : (cut : ℕ → Bool) (words : ℕ) (is : List LineStmt) (name : List ℕ)
-    → blurred_location (location_of (layout is) name) ≡ blurred_location (location_of (layout (fixed_items cut words 0 is)) name)
+pub location_of-fixed_items : (cut : ℕ → Bool) (words : ℕ) (is : List LineStmt) (name : List ℕ)
+    → blurred_location (location_of (layout is) name)
+    ≡ blurred_location (location_of (layout (fixed_items cut words 0 is)) name)
 unfolding layout
-locations_same cut words is name =
+location_of-fixed_items cut words is name =
     blurred_location-first (defined_at name) (placed start 1 is)
-    ∙ (first_same (blurred_definition name) (blurred_definition-reads name) (λ p m. refl) cut words 0 is start start 1 1 refl
+    ∙ (first_same (blurred_definition name) (blurred_definition-reads name)
+    (λ p m. refl) cut words 0 is start start 1 1 refl
     ∙ sym (blurred_location-first (defined_at name) (placed start 1 (fixed_items cut words 0 is))))
 
 -- the fields
@@ -172,10 +186,10 @@ pub code_base_same : (cut : ℕ → Bool) (words : ℕ) (is : List LineStmt)
     → code_base_of (fields (layout is)) ≡ code_base_of (fields (layout (fixed_items cut words 0 is)))
 code_base_same cut words is = ap (λ (o : Option ℕ). unwrap_or o 0x10000) (field_same code_base_in refl cut words is)
 
-pub segments_same : (cut : ℕ → Bool) (words : ℕ) (is : List LineStmt)
+pub segments_of-fixed_items : (cut : ℕ → Bool) (words : ℕ) (is : List LineStmt)
     → segments_of is ≡ segments_of (fixed_items cut words 0 is)
 unfolding segments_of end
-segments_same cut words is =
+segments_of-fixed_items cut words is =
     let e = end_same cut words 0 is start start refl in
     let d = field_same data_base_in refl cut words is in
     ap (λ (o : Option ℕ).

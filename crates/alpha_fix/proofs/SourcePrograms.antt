@@ -40,14 +40,14 @@ use Rattle.alpha_fix.specs.FixedLines.{items_of, is_over_distance, takes_half, e
 use Rattle.alpha_fix.specs.FixedLines.{least_line, names_code, code_base, fixed_line}
 use Rattle.alpha_fix.specs.Fix.{HasImage, HasCuts, IsFixedSource}
 use Rattle.alpha_fix.proofs.BarredCode.{barred-IsAccepted, cut-needed}
-use Rattle.alpha_asm.proofs.SourceLines.{source_lines-joined, texts_of}
+use Rattle.alpha_asm.proofs.SourceLines.{source_lines-joined, lines-source_lines}
 use Rattle.alpha_fix.proofs.FixedItems.{trapb_item, fixed_items, EndsAlike, items_by_lines, items_of_fixed}
 use Rattle.alpha_fix.proofs.FixedItems.{fixed_source-no_cuts}
-use Rattle.alpha_fix.proofs.PlaceCores.{locations_same, code_base_same, segments_same}
+use Rattle.alpha_fix.proofs.PlaceCores.{location_of-fixed_items, code_base_same, segments_of-fixed_items}
 use Rattle.alpha_fix.proofs.SteadyClasses.{word_class, AreAlike, AreAlike-IsAccepted, has_broken_alike}
 use Rattle.alpha_fix.proofs.BarrierMarks.{marked, map-marked, marked_barred, without_barrier, map-without}
 use Rattle.alpha_fix.proofs.BarredWords.{form_class, KnownAlike, SteadyCoded, AreSteady, classes_code, bar_class}
-use Rattle.alpha_fix.proofs.BarredWords.{classes_marked, words_classes, words_length}
+use Rattle.alpha_fix.proofs.BarredWords.{classes_marked, word_class-filter_map_decoded, length-filter_map_decoded}
 
 -- the line of a barrier reads as one
 
@@ -55,8 +55,8 @@ canon-trapb : canon (Misc Trapb) ≡ codes "trapb"
 unfolding canon
 canon-trapb = refl
 
-pub trapb_reads : line_item trapb_line ≡ trapb_item
-trapb_reads =
+pub line_item-trapb_line : line_item trapb_line ≡ trapb_item
+line_item-trapb_line =
     ap (λ r. result_unwrap_or r (record { label = None; statement = empty }))
     (ap read (sym canon-trapb) ∙ reads_back (Misc Trapb) tt)
 
@@ -78,9 +78,10 @@ assembled-first_refused source p e =
     (unless_ok (first_refused source_kinds.Program [] (lines source))
     (assembled_program (map item_at (lines source))) p e).0
 
-pub made_of : (source : List ℕ) (p : Program) → assembled source ≡ Ok p → assembled_program (items_of source) ≡ Ok p
+pub assembled-assembled_program : (source : List ℕ) (p : Program) → assembled source ≡ Ok p
+    → assembled_program (items_of source) ≡ Ok p
 unfolding assembled
-made_of source p e =
+assembled-assembled_program source p e =
     (unless_ok (first_refused source_kinds.Program [] (lines source))
     (assembled_program (map item_at (lines source))) p e).1
 
@@ -104,11 +105,13 @@ made_code : (is : List LineStmt) (p : Program) → assembled_program is ≡ Ok p
 unfolding assembled_program
 made_code is p e = made_entry is (fields (layout is)).entry p e
 
-pub code_is : (source : List ℕ) (p : Program) → assembled source ≡ Ok p → p.code ≡ code_of_layout (items_of source)
-code_is source p e = (made_code (items_of source) p (made_of source p e)).0
+pub assembled-code : (source : List ℕ) (p : Program) → assembled source ≡ Ok p
+    → p.code ≡ code_of_layout (items_of source)
+assembled-code source p e = (made_code (items_of source) p (assembled-assembled_program source p e)).0
 
-pub code_base_is : (source : List ℕ) (p : Program) → assembled source ≡ Ok p → p.code_base ≡ code_base (items_of source)
-code_base_is source p e = (made_code (items_of source) p (made_of source p e)).1
+pub assembled-code_base : (source : List ℕ) (p : Program) → assembled source ≡ Ok p
+    → p.code_base ≡ code_base (items_of source)
+assembled-code_base source p e = (made_code (items_of source) p (assembled-assembled_program source p e)).1
 
 -- how many words there are
 
@@ -142,15 +145,16 @@ count_items : (is : List LineStmt) → length (code_of_layout is) ≡ length (fi
 unfolding layout
 count_items is = count_code (known is) start 1 is
 
-pub words_are : (source : List ℕ) (image : Parts) → HasImage source image → length image.words ≡ word_count source
-words_are source image h =
-    sym (words_length image.level image.words h.good.words)
-    ∙ (ap length (code_is source (program_of image) h.assembles)
+pub HasImage-word_count : (source : List ℕ) (image : Parts) → HasImage source image
+    → length image.words ≡ word_count source
+HasImage-word_count source image h =
+    sym (length-filter_map_decoded image.level image.words h.good.words)
+    ∙ (ap length (assembled-code source (program_of image) h.assembles)
     ∙ (count_items (items_of source)
     ∙ (ap (λ is. length (filter has_insn is)) (items_by_lines source) ∙ count_lines (source_lines source))))
 
-pub some_words : (image : Parts) → IsImage image → 0 < length image.words
-some_words image good = good.fields.words.0
+pub IsImage-has_words : (image : Parts) → IsImage image → 0 < length image.words
+IsImage-has_words image good = good.fields.words.0
 
 -- each line of an assembled source reads, and is short
 
@@ -183,7 +187,8 @@ pub all_read : (is : List LineStmt) (ls : List (List ℕ)) → first_refused sou
 all_read is [] e = tt
 all_read is (l ∷ ls) e =
     let o =
-    option_or-both_none (refused source_kinds.Program is l) (first_refused source_kinds.Program (is ++ item_at l ∷ []) ls) e in
+    option_or-both_none (refused source_kinds.Program is l)
+    (first_refused source_kinds.Program (is ++ item_at l ∷ []) ls) e in
     let t = line_taken is l o.0 in
     (t.0, t.1, all_read (is ++ item_at l ∷ []) ls o.1)
 
@@ -220,7 +225,7 @@ module _ (returns : (l : List ℕ) (i : LineStmt) → read (l ++ 13 ∷ []) ≡ 
   pub alike_ends : (source : List ℕ) (p : Program) → assembled source ≡ Ok p → EndsAlike (source_lines source)
   alike_ends source p e =
       ends_alike (source_lines source)
-      (subst AllRead (texts_of source) (all_read [] (lines source) (assembled-first_refused source p e)))
+      (subst AllRead (lines-source_lines source) (all_read [] (lines source) (assembled-first_refused source p e)))
 
 -- without a fixed line no half of an address of the code stands but in LDA and LDAH
 
@@ -267,8 +272,8 @@ known_same : (cut : ℕ → Bool) (n : ℕ) (is : List LineStmt) → KnownAlike 
 unfolding known
 known_same cut n is = record {
   same_base = code_base_same cut n is;
-  same_segments = segments_same cut n is;
-  same_spots = locations_same cut n is;
+  same_segments = segments_of-fixed_items cut n is;
+  same_spots = location_of-fixed_items cut n is;
 }
 
 code_classes : (cut : ℕ → Bool) (n : ℕ) (is : List LineStmt)
@@ -282,11 +287,12 @@ code_classes cut n is s =
     ∙ ap (marked bar_class cut n 0) (sym (classes_code (known is) (placed start 1 is))))
 
 -- the words of an image by the instructions of its source
-pub by_code : (source : List ℕ) (image : Parts) → HasImage source image
+pub word_class-source_code : (source : List ℕ) (image : Parts) → HasImage source image
     → map word_class image.words ≡ map (λ c. Some c) (map form_class (code_of_layout (items_of source)))
-by_code source image h =
-    words_classes image.level image.words h.good.words
-    ∙ ap (λ (fs : List Form). map (λ c. Some c) (map form_class fs)) (code_is source (program_of image) h.assembles)
+word_class-source_code source image h =
+    word_class-filter_map_decoded image.level image.words h.good.words
+    ∙ ap (λ (fs : List Form). map (λ c. Some c) (map form_class fs))
+    (assembled-code source (program_of image) h.assembles)
 
 module _ (returns : (l : List ℕ) (i : LineStmt) → read (l ++ 13 ∷ []) ≡ Ok i → read l ≡ Ok i) where
   alike_free : (source cuts : List ℕ) (image fixed : Parts) → HasCuts source image cuts → fixed_line source ≡ None
@@ -295,25 +301,27 @@ module _ (returns : (l : List ℕ) (i : LineStmt) → read (l ++ 13 ∷ []) ≡ 
       let is : List LineStmt = items_of source in
       let n : ℕ = word_count source in
       let cut : ℕ → Bool = is_cut cuts in
-      by_code (fixed_source source cuts) fixed f
+      word_class-source_code (fixed_source source cuts) fixed f
       ∙ (ap (λ js. map (λ c. Some c) (map form_class (code_of_layout js)))
-      (items_of_fixed trapb_reads source cuts (alike_ends returns source (program_of image) h.has_image.assembles))
+      (items_of_fixed line_item-trapb_line source cuts
+      (alike_ends returns source (program_of image) h.has_image.assembles))
       ∙ (ap (map (λ c. Some c)) (code_classes cut n is (steady_items source free))
       ∙ (map-marked (λ c. Some c) bar_class cut n 0 (map form_class (code_of_layout is))
-      ∙ (ap (marked (Some bar_class) cut n 0) (sym (by_code source image h.has_image))
+      ∙ (ap (marked (Some bar_class) cut n 0) (sym (word_class-source_code source image h.has_image))
       ∙ (ap (λ b. marked b cut n 0 (map word_class image.words)) (sym trapb_class)
       ∙ (sym (map-marked word_class trapb cut n 0 image.words)
       ∙ ap (map word_class)
-      (ap (λ (m : ℕ). marked trapb cut m 0 image.words) (sym (words_are source image h.has_image))
-      ∙ marked_barred image.words cuts h.are_cuts (some_words image h.has_image.good))))))))
+      (ap (λ (m : ℕ). marked trapb cut m 0 image.words) (sym (HasImage-word_count source image h.has_image))
+      ∙ marked_barred image.words cuts h.are_cuts (IsImage-has_words image h.has_image.good))))))))
 
   alike_none : (source cuts : List ℕ) (image fixed : Parts) → HasCuts source image cuts → cuts ≡ []
       → HasImage (fixed_source source cuts) fixed → AreAlike fixed.words (barred image.words cuts)
   alike_none source cuts image fixed h e f =
       let same : fixed_source source cuts ≡ source = ap (fixed_source source) e ∙ fixed_source-no_cuts source in
-      by_code (fixed_source source cuts) fixed f
+      word_class-source_code (fixed_source source cuts) fixed f
       ∙ (ap (λ (s : List ℕ). map (λ c. Some c) (map form_class (code_of_layout (items_of s)))) same
-      ∙ (sym (by_code source image h.has_image) ∙ ap (λ (c : List ℕ). map word_class (barred image.words c)) (sym e)))
+      ∙ (sym (word_class-source_code source image h.has_image)
+      ∙ ap (λ (c : List ℕ). map word_class (barred image.words c)) (sym e)))
 
   pub alike_words : (source cuts : List ℕ) (image fixed : Parts) → HasCuts source image cuts
       → (cuts ≡ []) ⊎ (fixed_line source ≡ None) → HasImage (fixed_source source cuts) fixed
@@ -408,11 +416,12 @@ length-fixed_source source cuts =
       ap length (source_lines-joined source),
     )
 
-pub text_size : (source cuts text : List ℕ) (image : Parts) → HasImage source image → text ≡ fixed_source source cuts
+pub fixed_source-size_bound : (source cuts text : List ℕ) (image : Parts) → HasImage source image
+    → text ≡ fixed_source source cuts
     → length source < 2 ^ 31 → length text < 2 ^ 32
-text_size source cuts text image h e l =
+fixed_source-size_bound source cuts text image h e l =
     let w = h.good.fields.words.1 in
-    let n = words_are source image h in
+    let n = HasImage-word_count source image h in
     omega (arith, ap length e, length-fixed_source source cuts, w, n)
 
 pub no_cuts-IsFixedSource : (source cuts text : List ℕ) (image : Parts) → HasCuts source image cuts → length cuts ≡ 0

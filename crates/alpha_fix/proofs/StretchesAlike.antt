@@ -18,9 +18,10 @@ pub record LooksAlike (code : List ℕ) (at : ℕ) (other : List ℕ) (there : �
   pub same_access : access_at code at ≡ access_at other there
   pub same_uses : (r : ℕ) → uses (class_at code at) r ≡ uses (class_at other there) r
 
-pub same_class : (code : List ℕ) (at : ℕ) (other : List ℕ) (there : ℕ) → class_at code at ≡ class_at other there
+pub LooksAlike-same_class : (code : List ℕ) (at : ℕ) (other : List ℕ) (there : ℕ)
+    → class_at code at ≡ class_at other there
     → LooksAlike code at other there
-same_class code at other there e = record {
+LooksAlike-same_class code at other there e = record {
   same_kind = ap kind e;
   same_destination = ap trap_rc e;
   same_set = ap sets e;
@@ -32,7 +33,7 @@ pub LooksAlike-same_word : (code : List ℕ) (at : ℕ) (other : List ℕ) (ther
     → slice_get code at ≡ slice_get other there
     → LooksAlike code at other there
 unfolding class_at
-LooksAlike-same_word code at other there e = same_class code at other there (ap (option_and_then class_in) e)
+LooksAlike-same_word code at other there e = LooksAlike-same_class code at other there (ap (option_and_then class_in) e)
 
 -- The words from p up to a place and those of other code from q up to a place there look alike, and both places are
 -- places of the code, or its ends.

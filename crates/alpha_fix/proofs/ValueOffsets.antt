@@ -43,31 +43,32 @@ first_on off (Some r) rs h = by (off r) refl h
     by true e k = cc
     by false e k = ap (λ x. x || list_any off rs) e
 
-pub off_now : (off : Reference → Bool) (b n i : ℕ) (rest more : List ℕ) (v : Listed) (whole : Bool) → i < n
+pub any_of-off_value : (off : Reference → Bool) (b n i : ℕ) (rest more : List ℕ) (v : Listed) (whole : Bool) → i < n
     → Some (v, more) ≡ next_value b rest
     → true ≡ any_of off (cell_of b v ∷ []) → any_of off (map (cell_of b) (values_up_to (n - i) b rest)) ≡ whole
     → true ≡ whole
-off_now off b n i rest more v whole h e t inv =
+any_of-off_value off b n i rest more v whole h e t inv =
     sym (first_off off (cell_reference (cell_of b v))
     (filter_map cell_reference (map (cell_of b) (values_up_to (n - (i + 1)) b more))) t)
     ∙ (ap (λ vs. any_of off (map (cell_of b) vs)) (sym (next_values b n i rest more v h e)) ∙ inv)
 
-pub on_still : (off : Reference → Bool) (b n i : ℕ) (rest more : List ℕ) (v : Listed) (whole : Bool) → i < n
+pub any_of-other_value : (off : Reference → Bool) (b n i : ℕ) (rest more : List ℕ) (v : Listed) (whole : Bool) → i < n
     → Some (v, more) ≡ next_value b rest
     → false ≡ any_of off (cell_of b v ∷ []) → any_of off (map (cell_of b) (values_up_to (n - i) b rest)) ≡ whole
     → any_of off (map (cell_of b) (values_up_to (n - (i + 1)) b more)) ≡ whole
-on_still off b n i rest more v whole h e t inv =
+any_of-other_value off b n i rest more v whole h e t inv =
     sym (first_on off (cell_reference (cell_of b v))
     (filter_map cell_reference (map (cell_of b) (values_up_to (n - (i + 1)) b more))) t)
     ∙ (ap (λ vs. any_of off (map (cell_of b) vs)) (sym (next_values b n i rest more v h e)) ∙ inv)
 
-pub no_more : (off : Reference → Bool) (b n i : ℕ) (rest : List ℕ) (whole : Bool) → None ≡ next_value b rest
+pub any_of-no_value : (off : Reference → Bool) (b n i : ℕ) (rest : List ℕ) (whole : Bool) → None ≡ next_value b rest
     → any_of off (map (cell_of b) (values_up_to (n - i) b rest)) ≡ whole → false ≡ whole
-no_more off b n i rest whole e inv = ap (λ vs. any_of off (map (cell_of b) vs)) (sym (no_values (n - i) b rest e)) ∙ inv
+any_of-no_value off b n i rest whole e inv =
+    ap (λ vs. any_of off (map (cell_of b) vs)) (sym (no_values (n - i) b rest e)) ∙ inv
 
-pub all_seen : (off : Reference → Bool) (b n i : ℕ) (rest : List ℕ) (whole : Bool) → n ≤ i
+pub any_of-no_value_left : (off : Reference → Bool) (b n i : ℕ) (rest : List ℕ) (whole : Bool) → n ≤ i
     → any_of off (map (cell_of b) (values_up_to (n - i) b rest)) ≡ whole → false ≡ whole
-all_seen off b n i rest whole h inv =
+any_of-no_value_left off b n i rest whole h inv =
     let z : 0 ≡ n - i = omega arith in
     ap (λ (m : ℕ). any_of off (map (cell_of b) (values_up_to m b rest))) z ∙ inv
 

@@ -12,7 +12,7 @@ use Rattle.alpha_table.specs.Row.{IsInsn}
 use Rattle.alpha_table.specs.Decoded.{decoded}
 use Rattle.alpha_table.specs.Encoded.{encoded}
 use Rattle.alpha_table.specs.Columns.{level_of}
-use Rattle.alpha_table.proofs.DecodedInsns.{decoded-Row, Row-decoded, Row-one_word, IsInsn-Row}
+use Rattle.alpha_table.proofs.DecodedInsns.{decoded-Row, Row-decoded, Row-injective, IsInsn-Row}
 use Rattle.alpha_table.proofs.InsnWords.{encoded-Row}
 use Rattle.alpha_table.proofs.Levels.{level_in-decoded}
 use Rattle.alpha_image.specs.Parts.{IsWithin, IsCodeWord}
@@ -27,7 +27,7 @@ encoded-decoded : (w : ℕ) (i : Form) → w < 2 ^ 32 → decoded w ≡ Some i �
 encoded-decoded w i small e =
     let row = Row-decoded w i e in
     let own = encoded-Row i (IsInsn-Row w i row) in
-    Row-one_word w (encoded i) i small own.0 row own.1
+    Row-injective w (encoded i) i small own.0 row own.1
 
 -- code words are those of their instructions
 pub words_of_insns : (level : Level) (words : List ℕ) (insns : List Form) → All (IsCodeWord level) words
@@ -43,10 +43,10 @@ words_of_insns level (w ∷ words) (i ∷ insns) all e =
     (words_of_insns level words insns (All-tail (IsCodeWord level) w words all) later)
 
 -- one word more
-pub one_more : (words : List ℕ) (insns : List Form) (place : ℕ) (i : Form) → place < length words
+pub decoded-next_word : (words : List ℕ) (insns : List Form) (place : ℕ) (i : Form) → place < length words
     → map decoded (take place words) ≡ map Some insns → decoded (get_or words place 0) ≡ Some i
     → map decoded (take (place + 1) words) ≡ map Some (insns ++ i ∷ [])
-one_more words insns place i below e here =
+decoded-next_word words insns place i below e here =
     ap (map decoded) (take_more words place 0 below)
     ∙ (map-append decoded (take place words) (get_or words place 0 ∷ [])
     ∙ (ap (λ (os : List (Option Form)). os ++ (decoded (get_or words place 0) ∷ [])) e
@@ -54,19 +54,19 @@ one_more words insns place i below e here =
     ∙ sym (map-append Some insns (i ∷ [])))))
 
 -- the word there is that of the instruction
-pub encoded_there : (insns : List Form) (place : ℕ) (i : Form) → slice_get insns place ≡ Some i
+pub get_or-map_encoded : (insns : List Form) (place : ℕ) (i : Form) → slice_get insns place ≡ Some i
     → get_or (map encoded insns) place 0 ≡ encoded i
-encoded_there insns place i there =
+get_or-map_encoded insns place i there =
     get_or_from_slice_get (map encoded insns) place (encoded i) 0
     (slice_get-map encoded insns place ∙ ap (option_map encoded) there)
 
 -- instructions of the table at a level have code words of that level
-pub code_words_of_insns : (level : Level) (insns : List Form) → All (IsCodeInsn level) insns
+pub IsCodeWord-map_encoded : (level : Level) (insns : List Form) → All (IsCodeInsn level) insns
     → All (IsCodeWord level) (map encoded insns) × (map decoded (map encoded insns) ≡ map Some insns)
-code_words_of_insns level [] all = (All-nil (IsCodeWord level), refl)
-code_words_of_insns level (i ∷ insns) all =
+IsCodeWord-map_encoded level [] all = (All-nil (IsCodeWord level), refl)
+IsCodeWord-map_encoded level (i ∷ insns) all =
     let here = All-head (IsCodeInsn level) i insns all in
-    let later = code_words_of_insns level insns (All-tail (IsCodeInsn level) i insns all) in
+    let later = IsCodeWord-map_encoded level insns (All-tail (IsCodeInsn level) i insns all) in
     let own = decoded-encoded i here.0 in
     let word : IsCodeWord level (encoded i) = (
       (encoded-Row i here.0).0,

@@ -43,11 +43,11 @@ bytes_low_first-above (suc k) i b y small =
     rw (byte_at-above i b y small, bytes_low_first-above k (suc i) b y small) refl
 
 -- the bytes of the number that bytes make
-pub bytes_of_number : (n : ℕ) (bytes : List ℕ) → IsBytes bytes → n ≤ length bytes
+pub bytes_low_first-little_from : (n : ℕ) (bytes : List ℕ) → IsBytes bytes → n ≤ length bytes
     → bytes_low_first 0 n (little_from 0 n bytes) ≡ take n bytes
-bytes_of_number zero bytes fits long = refl
-bytes_of_number (suc n) [] fits long = absurd (omega arith)
-bytes_of_number (suc n) (b ∷ bytes) fits long =
+bytes_low_first-little_from zero bytes fits long = refl
+bytes_low_first-little_from (suc n) [] fits long = absurd (omega arith)
+bytes_low_first-little_from (suc n) (b ∷ bytes) fits long =
     let y = little_from 0 n bytes in
     let small : b < 256 = fits 0 in
     let moved = little_from-cons 0 n b bytes in
@@ -56,7 +56,7 @@ bytes_of_number (suc n) (b ∷ bytes) fits long =
       moved,
       lowest,
       bytes_low_first-above n 0 b y small,
-      bytes_of_number n bytes (IsBytes-rest b bytes fits) (omega arith),
+      bytes_low_first-little_from n bytes (IsBytes-rest b bytes fits) (omega arith),
     ) refl
 
 pub length-longword : (n : ℕ) → length (longword n) ≡ 4
@@ -67,13 +67,15 @@ pub quadword-quadword_at : (offset : ℕ) (bytes : List ℕ) → IsBytes bytes �
     → quadword (quadword_at offset bytes) ≡ take 8 (drop offset bytes)
 unfolding quadword quadword_at
 quadword-quadword_at offset bytes fits long =
-    bytes_of_number 8 (drop offset bytes) (IsBytes-drop offset bytes fits) (omega (arith, length-drop offset bytes))
+    bytes_low_first-little_from 8 (drop offset bytes) (IsBytes-drop offset bytes fits)
+    (omega (arith, length-drop offset bytes))
 
 pub longword-longword_at : (offset : ℕ) (bytes : List ℕ) → IsBytes bytes → offset + 4 ≤ length bytes
     → longword (longword_at offset bytes) ≡ take 4 (drop offset bytes)
 unfolding longword longword_at
 longword-longword_at offset bytes fits long =
-    bytes_of_number 4 (drop offset bytes) (IsBytes-drop offset bytes fits) (omega (arith, length-drop offset bytes))
+    bytes_low_first-little_from 4 (drop offset bytes) (IsBytes-drop offset bytes fits)
+    (omega (arith, length-drop offset bytes))
 
 pub quadword_at-lt : (offset : ℕ) (bytes : List ℕ) → IsBytes bytes → quadword_at offset bytes < 2 ^ 64
 unfolding quadword_at

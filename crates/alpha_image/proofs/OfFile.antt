@@ -16,7 +16,7 @@ use Rattle.alpha_image.specs.ImageFault.{word_fault}
 use Rattle.alpha_image.proofs.LittleEndianNumbers.{IsBytes}
 use Rattle.alpha_image.proofs.CodeInsns.{words_of_insns}
 use Rattle.alpha_image.proofs.ReadSpelling.{IsImage-first_fault, length-words_in, numbers-parts_with, code_in}
-use Rattle.alpha_image.proofs.ReadSpelling.{cut_behind}
+use Rattle.alpha_image.proofs.ReadSpelling.{code_in-cut_behind_header}
 use Rattle.alpha_image.proofs.ReadSpelling.{parts_with-cut}
 
 -- what stands behind two sizes is what the bytes end with
@@ -49,7 +49,7 @@ module _ (bytes : List ℕ) (size : ℕ) (v : Version) (n : Numbers) (code rest 
     (front : code ≡ take (4 * n.words) (take (length bytes - size) (drop size bytes)))
     (back : rest ≡ drop (4 * n.words) (take (length bytes - size) (drop size bytes))) where
   pub code_cut : code ≡ code_in bytes
-  code_cut = (cut_behind bytes size v n (4 * n.words) code rest es ev en refl front back).0
+  code_cut = (code_in-cut_behind_header bytes size v n (4 * n.words) code rest es ev en refl front back).0
 
   data_cut : (at : ℕ) → at ≡ length bytes - length rest → drop at bytes ≡ data_in bytes
   data_cut at e =
@@ -57,7 +57,7 @@ module _ (bytes : List ℕ) (size : ℕ) (v : Version) (n : Numbers) (code rest 
       ∙ (ap (λ (w : Version). size_of w (numbers_of bytes)) (sym ev) ∙ ap (λ (m : Numbers). size_of v m) (sym en)) in
       ap (λ (j : ℕ). drop j bytes) e
       ∙ (data_at_end bytes size (4 * n.words) rest (omega arith) back
-      ∙ (cut_behind bytes size v n (4 * n.words) code rest es ev en refl front back).1)
+      ∙ (code_in-cut_behind_header bytes size v n (4 * n.words) code rest es ev en refl front back).1)
 
   pub of_file : (at : ℕ) → at ≡ length bytes - length rest → (insns : List Form)
       → word_fault (numbered_level n.level) (words_of code) ≡ None → map decoded (words_of code) ≡ map Some insns

@@ -33,7 +33,7 @@ use Rattle.alpha_image.proofs.ImageHeaders.{image_header-numbers_in}
 use Rattle.alpha_image.proofs.FieldRules.{option_or-both_none, unless-none, FieldsFit-least}
 use Rattle.alpha_image.proofs.CodeWords.{length-words_of, All-word_fault, words_of-lt, flat_map-words_of}
 use Rattle.alpha_image.proofs.CodeWords.{option_map-none}
-use Rattle.alpha_image.proofs.Spelled.{same_level}
+use Rattle.alpha_image.proofs.Spelled.{numbered_level-level_number}
 
 starts_magic : (v : Version) (bytes : List ℕ) → IsTrue (starts_with nat_eq bytes (magic v))
     → bytes ≡ magic v ++ drop 8 bytes
@@ -79,13 +79,13 @@ HasForm-checked bytes none fit size =
     record { magic = starts-image_header_fault (version_of bytes) bytes refl none; fields = fit; size = size }
 
 -- the level of a number that fits has that number
-pub same_number : (n : Numbers) → LevelFits n → level_number (numbered_level n.level) ≡ n.level
-same_number n fits = ⊎_elim (λ (e : n.level ≡ 1). rw e refl) (λ (e : n.level ≡ 2). rw e refl) fits
+pub level_number-numbered_level : (n : Numbers) → LevelFits n → level_number (numbered_level n.level) ≡ n.level
+level_number-numbered_level n fits = ⊎_elim (λ (e : n.level ≡ 1). rw e refl) (λ (e : n.level ≡ 2). rw e refl) fits
 
 -- the numbers of parts with numbers that fit
 pub numbers-parts_with : (v : Version) (n : Numbers) (words bytes : List ℕ) → FieldsFit n → length words ≡ n.words
     → numbers (parts_with v n words bytes) ≡ n
-numbers-parts_with v n words bytes fit len = rw (same_number n fit.level, len) refl
+numbers-parts_with v n words bytes fit len = rw (level_number-numbered_level n fit.level, len) refl
 
 -- parts with numbers that fit, with as many code words and data bytes as they say, are a good image
 pub IsImage-of_words : (v : Version) (n : Numbers) (words bytes : List ℕ) → FieldsFit n → SuitsVersion v n
@@ -248,7 +248,7 @@ IsImage-parts_fault p suits filled words bytes e =
     let level = numbered_level (level_number p.level) in
     let none = option_or-both_none (option_map Field (least_bad_field (numbers p))) (word_fault level p.words) e in
     let at : word_fault p.level p.words ≡ None =
-    ap (λ (l : Level). word_fault l p.words) (sym (same_level p.level)) ∙ none.1 in
+    ap (λ (l : Level). word_fault l p.words) (sym (numbered_level-level_number p.level)) ∙ none.1 in
     record {
       version = suits;
       fields = FieldsFit-least (numbers p) (option_map-none Field (least_bad_field (numbers p)) none.0);
@@ -270,13 +270,13 @@ unfolding parts_fault field_fault
 parts_fault-words n words e = rw (sym e) refl
 
 -- what stands behind a front, cut into code and data bytes
-pub cut_behind : (bytes : List ℕ) (size : ℕ) (v : Version) (n : Numbers) (k : ℕ) (code rest : List ℕ)
+pub code_in-cut_behind_header : (bytes : List ℕ) (size : ℕ) (v : Version) (n : Numbers) (k : ℕ) (code rest : List ℕ)
     → size ≡ image_header_size v n → v ≡ version_of bytes → n ≡ numbers_of bytes → k ≡ 4 * n.words
     → code ≡ take k (take (length bytes - size) (drop size bytes))
     → rest ≡ drop k (take (length bytes - size) (drop size bytes))
     → (code ≡ code_in bytes) × (rest ≡ data_in bytes)
 unfolding after_image_header data_in
-cut_behind bytes size v n k code rest es ev en ek ec er =
+code_in-cut_behind_header bytes size v n k code rest es ev en ek ec er =
     let whole = take_rest bytes size in
     let at : size ≡ image_header_size (version_of bytes) (numbers_of bytes) =
     es ∙ (ap (λ (w : Version). image_header_size w n) ev

@@ -48,11 +48,11 @@ flat_map-pieces_of (s ∷ rest) bytes e =
     ∙ take-append-drop s.filled bytes
 
 -- the bytes of a segment lie within all data bytes
-pub piece_within : (segments : List Segment) (n : ℕ) (s : Segment) → slice_get segments n ≡ Some s
+pub filled_size-take_bound : (segments : List Segment) (n : ℕ) (s : Segment) → slice_get segments n ≡ Some s
     → filled_size (take n segments) + s.filled ≤ filled_size segments
-piece_within [] n s e = absurd cc
-piece_within (t ∷ rest) zero s e =
+filled_size-take_bound [] n s e = absurd cc
+filled_size-take_bound (t ∷ rest) zero s e =
     let same : t ≡ s = cc in
     rw (sym same) (omega (arith, filled_size-cons t rest))
-piece_within (t ∷ rest) (suc n) s e =
-    omega (arith, piece_within rest n s e, filled_size-cons t rest, filled_size-cons t (take n rest))
+filled_size-take_bound (t ∷ rest) (suc n) s e =
+    omega (arith, filled_size-take_bound rest n s e, filled_size-cons t rest, filled_size-cons t (take n rest))

@@ -54,7 +54,8 @@ all_clear : (end : ℕ) (s : Segment) (rest : List Segment) → All (λ t. s.bas
     ≡ list_all (begins_above (max end (s.base + size_of_segment s))) rest
 all_clear end s [] above = refl
 all_clear end s (t ∷ rest) above =
-    and-exchanged (begins_above end t) (are_apart (segment_region s) (segment_region t)) (list_all (begins_above end) rest)
+    and-exchanged (begins_above end t) (are_apart (segment_region s) (segment_region t))
+    (list_all (begins_above end) rest)
     (list_all (are_apart (segment_region s)) (map segment_region rest))
     ∙ (ap (λ (b : Bool). b
     && (list_all (begins_above end) rest && list_all (are_apart (segment_region s)) (map segment_region rest)))
@@ -127,7 +128,8 @@ base_at segments n within = get_or-map (λ (s : Segment). s.base) segments n emp
 
 -- a base that is not above the one before it
 pub rise-not_falling : (segments : List Segment) (n : ℕ) → 1 ≤ n → n < length segments
-    → (get_or segments n empty_segment).base ≤ (get_or segments (n - 1) empty_segment).base → rise (segment_bases segments) ≡ false
+    → (get_or segments n empty_segment).base ≤ (get_or segments (n - 1) empty_segment).base
+    → rise (segment_bases segments) ≡ false
 rise-not_falling segments n some within h =
     let next : n - 1 + 1 ≡ n = omega arith in
     falls-rise (segment_bases segments) (n - 1) (omega (arith, length-map segments (λ (s : Segment). s.base)))

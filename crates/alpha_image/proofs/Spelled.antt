@@ -67,9 +67,9 @@ data_in-image_spelling p good =
     ∙ (ap (λ (t : List ℕ). drop (length code) t) (after_image_header-image_spelling p good)
     ∙ drop_at code p.bytes (length code) refl)
 
-pub same_level : (l : Level) → numbered_level (level_number l) ≡ l
-same_level levels.One = refl
-same_level levels.Two = refl
+pub numbered_level-level_number : (l : Level) → numbered_level (level_number l) ≡ l
+numbered_level-level_number levels.One = refl
+numbered_level-level_number levels.Two = refl
 
 -- the image that is spelled is the one that its bytes give
 pub parts_of-image_spelling : (p : Parts) → IsImage p → parts_of (image_spelling p) ≡ p
@@ -79,10 +79,11 @@ parts_of-image_spelling p good =
     ∙ (ap (λ (n : Numbers). parts_with p.version n (words_in s) (data_in s)) (numbers_of-image_spelling p good)
     ∙ (ap (λ (words : List ℕ). parts_with p.version (numbers p) words (data_in s)) (words_in-image_spelling p good)
     ∙ (ap (λ (bytes : List ℕ). parts_with p.version (numbers p) p.words bytes) (data_in-image_spelling p good)
-    ∙ ap (λ (l : Level). record p { level = l }) (same_level p.level))))
+    ∙ ap (λ (l : Level). record p { level = l }) (numbered_level-level_number p.level))))
 
-pub one_image : (p q : Parts) → IsImage p → IsImage q → image_spelling p ≡ image_spelling q → p ≡ q
-one_image p q good other e = sym (parts_of-image_spelling p good) ∙ (ap parts_of e ∙ parts_of-image_spelling q other)
+pub image_spelling-injective : (p q : Parts) → IsImage p → IsImage q → image_spelling p ≡ image_spelling q → p ≡ q
+image_spelling-injective p q good other e =
+    sym (parts_of-image_spelling p good) ∙ (ap parts_of e ∙ parts_of-image_spelling q other)
 
 pub length-image_spelling : (p : Parts) → IsImage p → length (image_spelling p) ≡ size_of p.version (numbers p)
 unfolding image_spelling
@@ -142,7 +143,7 @@ word_fault-image_spelling : (p : Parts) → IsImage p
 word_fault-image_spelling p good =
     ap (λ (n : Numbers). word_fault (numbered_level n.level) (words_in (image_spelling p)))
     (numbers_of-image_spelling p good)
-    ∙ (ap (λ (l : Level). word_fault l (words_in (image_spelling p))) (same_level p.level)
+    ∙ (ap (λ (l : Level). word_fault l (words_in (image_spelling p))) (numbered_level-level_number p.level)
     ∙ (ap (λ (words : List ℕ). word_fault p.level words) (words_in-image_spelling p good)
     ∙ word_fault-All p.level p.words good.words))
 
@@ -153,4 +154,5 @@ first_fault-image_spelling p good = rw (form_fault-image_spelling p good) (word_
 pub parts_fault-IsImage : (p : Parts) → IsImage p → parts_fault (numbers p) p.words ≡ None
 unfolding parts_fault field_fault
 parts_fault-IsImage p good =
-    rw (least-FieldsFit (numbers p) good.fields, same_level p.level) (word_fault-All p.level p.words good.words)
+    rw (least-FieldsFit (numbers p) good.fields, numbered_level-level_number p.level)
+    (word_fault-All p.level p.words good.words)

@@ -32,7 +32,7 @@ use Rattle.alpha_seq.proofs.ExecutedInsns.{Retires-kernel}
 use Rattle.alpha_imprecise.specs.declared.pending.Pending.{Pending}
 use Rattle.alpha_imprecise.specs.StepResult.{Trap, with_register, ImpreciseEvent, Precisely, Triggered, Waited}
 use Rattle.alpha_imprecise.specs.StepResult.{step_result}
-use Rattle.alpha_imprecise.specs.Step.{triggers, triggered, destination, adds_here, precisely, report, waited}
+use Rattle.alpha_imprecise.specs.Step.{triggers, triggered, trap_destination, adds_here, precisely, report, waited}
 use Rattle.alpha_imprecise.specs.Step.{imprecise_step_at}
 use Rattle.alpha_imprecise.specs.ImpreciseState.{mask_after, imprecise_state, trap_of, trap_in, waited_in, OverflowsAt}
 use Rattle.alpha_imprecise.specs.ImpreciseState.{WaitsAt, ExecutesUnpredictable}
@@ -196,9 +196,9 @@ precise-breaks fault old new input out exact breaks = record {
 }
 
 -- a step that only goes on, with nothing pending
-pub continues-steps : (old new : Machine) → Retires old new
+pub ImpreciseRetires-Retires : (old new : Machine) → Retires old new
     → ImpreciseRetires (imprecise_state old None) (imprecise_state new None)
-continues-steps old new h =
+ImpreciseRetires-Retires old new h =
     let g = program_of old in
     let o = class_here old in
     let exact = goes_exact old new h in
@@ -274,11 +274,11 @@ trigger-steps m new place rc value mask here is_new is_mask =
 pub mask-added : (o : Option Class) (mask : ℕ) (adds : Bool)
     → mask_after o mask (adds && adds_here o) ≡ mask_after o mask adds
 mask-added o mask false = refl
-mask-added o mask true = by (destination o == 31) refl
+mask-added o mask true = by (trap_destination o == 31) refl
   where
-    by : (b : Bool) → (destination o == 31) ≡ b
-        → cond (not b) (with_register mask (destination o)) mask ≡ with_register mask (destination o)
-    by true e = sym (ap (λ (t : Bool). cond t mask (bit_or mask (2 ^ destination o))) e)
+    by : (b : Bool) → (trap_destination o == 31) ≡ b
+        → cond (not b) (with_register mask (trap_destination o)) mask ≡ with_register mask (trap_destination o)
+    by true e = sym (ap (λ (t : Bool). cond t mask (bit_or mask (2 ^ trap_destination o))) e)
     by false e = refl
 
 pub wait-steps : (m new : Machine) (trap : Pending) (class : Class) (w : Wait) (mask waited' : ℕ) → WaitsAt m class

@@ -15,11 +15,12 @@ use Rattle.alpha_imprecise.specs.ChosenRun.{ChosenRun, begun, advance_chosen_run
 use Rattle.alpha_imprecise.specs.ChosenRun.{most_words}
 use Rattle.alpha_imprecise.proofs.ChosenRuns.{chosen_run-keeps}
 use Rattle.alpha_imprecise.proofs.PendingTraps.{stepped_chosen_run, advance_chosen_run-going, advance_chosen_run-over}
-use Rattle.alpha_imprecise.proofs.PendingTraps.{none_of, made_is}
+use Rattle.alpha_imprecise.proofs.PendingTraps.{is_none-true, made_is}
 use Rattle.alpha_imprecise.proofs.StepBounds.{steps-first, steps-then, IsWithin-pending}
-use Rattle.alpha_imprecise.proofs.EffectiveChoices.{next_step_result-by, given_same, over_by, left_behind, fed_split}
+use Rattle.alpha_imprecise.proofs.EffectiveChoices.{next_step_result-by, imprecise_step-given_input}
+use Rattle.alpha_imprecise.proofs.EffectiveChoices.{imprecise_step-over_input, left_behind, Fed-split_event}
 use Rattle.alpha_imprecise.proofs.ImpreciseSequence.{seen_steps-append, RunsImprecisely-append, RunsImprecisely-one}
-use Rattle.alpha_imprecise.proofs.ImpreciseSequence.{units_of_steps-append, fed-one}
+use Rattle.alpha_imprecise.proofs.ImpreciseSequence.{units_of_steps-append, Fed-next_event}
 use Rattle.alpha_imprecise.proofs.WordDraws.{words_drawn, draws_most}
 
 -- ---- what a making has done
@@ -90,14 +91,14 @@ module _ (g : Program) where
         let h = m.last_event in
         let hs = k.run.steps in
         let chose : (chosen g b.state b.pending k.waited k.words (given_to h)).last_event ≡ h =
-        ap (λ (n : StepResult). n.last_event) (given_same g b d.choice k.run.left) in
+        ap (λ (n : StepResult). n.last_event) (imprecise_step-given_input g b d.choice k.run.left) in
         let more : units g b (h ∷ []) ≡ unit_of b.pending = omega arith in
         record {
           runs =
               RunsImprecisely-append g hs (h ∷ []) a b m made.runs (RunsImprecisely-one g b d.choice k.run.left going);
           fed = subst (λ l. Fed input l (left_behind h k.run.left)) (sym (seen_steps-append hs (h ∷ [])))
               (Fed-append input k.run.left (left_behind h k.run.left) (seen hs) (seen (h ∷ [])) made.fed
-              (fed-one g b d.choice k.run.left));
+              (Fed-next_event g b d.choice k.run.left));
           used =
               units_of_steps-append g hs (h ∷ []) a b made.runs
               ∙ (ap (λ n. n + units g b (h ∷ [])) made.used ∙ ap (λ n. k.run.units + n) more);
@@ -175,8 +176,8 @@ drawn_told g [] k b left rest run draws fed = (
 drawn_told g (h ∷ hs) k b left rest run draws fed =
     let a = k.run.at in
     let d : Draw = draw g a.state a.pending k.waited k.words in
-    let gave = fed_split h (seen hs) k.run.left left fed in
-    let over = over_by g a d.choice h k.run.left draws.0 gave.0 in
+    let gave = Fed-split_event h (seen hs) k.run.left left fed in
+    let over = imprecise_step-over_input g a d.choice h k.run.left draws.0 gave.0 in
     let to : chosen g a.state a.pending k.waited k.words k.run.left ≡ next_step_result g a h =
     over ∙ sym (next_step_result-by g a d.choice h draws.0) in
     let next : ChosenRun = chosen_run_with (next_step_result g a h) (k.run.steps ++ h ∷ []) (left_behind h k.run.left)
@@ -225,17 +226,19 @@ advance_units g j = by (finished j.run.at.last_event)
     by true = omega arith
     by false = omega arith
 
-pub units_grow : (g : Program) (d : ℕ) (k : ChosenRun) → k.run.units ≤ (steps_of_chosen_run g k d).run.units
-units_grow g zero k = omega arith
-units_grow g (suc d) k =
-    let rest = units_grow g d k in
+pub steps_of_chosen_run-units_le : (g : Program) (d : ℕ) (k : ChosenRun)
+    → k.run.units ≤ (steps_of_chosen_run g k d).run.units
+steps_of_chosen_run-units_le g zero k = omega arith
+steps_of_chosen_run-units_le g (suc d) k =
+    let rest = steps_of_chosen_run-units_le g d k in
     let one = advance_units g (steps_of_chosen_run g k d) in
     omega arith
 
-pub stays_over : (g : Program) (d : ℕ) (k : ChosenRun) → finished k.run.at.last_event ≡ true
+pub steps_of_chosen_run-over : (g : Program) (d : ℕ) (k : ChosenRun) → finished k.run.at.last_event ≡ true
     → steps_of_chosen_run g k d ≡ k
-stays_over g zero k e = refl
-stays_over g (suc d) k e = ap (advance_chosen_run g) (stays_over g d k e) ∙ advance_chosen_run-over g k e
+steps_of_chosen_run-over g zero k e = refl
+steps_of_chosen_run-over g (suc d) k e =
+    ap (advance_chosen_run g) (steps_of_chosen_run-over g d k e) ∙ advance_chosen_run-over g k e
 
 -- a run that has used so many units goes on to no other one that has
 used_once : (g : Program) (k : ChosenRun) (n : ℕ) → HasUsed n k.run.units k.run.at → (d : ℕ)
@@ -245,16 +248,16 @@ used_once g k n one d two = by (finished k.run.at.last_event) refl d two
     by : (b : Bool) → finished k.run.at.last_event ≡ b → (d : ℕ)
         → HasUsed n (steps_of_chosen_run g k d).run.units (steps_of_chosen_run g k d).run.at
         → steps_of_chosen_run g k d ≡ k
-    by true e d two = stays_over g d k e
+    by true e d two = steps_of_chosen_run-over g d k e
     by false e zero two = refl
     by false e (suc d) two =
         let calm : k.run.at.pending ≡ None =
-        none_of k.run.at.pending (ap (λ b. b || is_none k.run.at.pending) (sym e) ∙ one.settled) in
+        is_none-true k.run.at.pending (ap (λ b. b || is_none k.run.at.pending) (sym e) ∙ one.settled) in
         let first : (advance_chosen_run g k).run.units ≡ k.run.units + 1 =
         ap (λ (j : ChosenRun). j.run.units) (advance_chosen_run-going g k e)
         ∙ ap (λ (p : Option Trap). k.run.units + unit_of p) calm in
         let full = one.full e in
-        let grows = units_grow g d (advance_chosen_run g k) in
+        let grows = steps_of_chosen_run-units_le g d (advance_chosen_run g k) in
         let more : (steps_of_chosen_run g (advance_chosen_run g k) d).run.units
         ≡ (steps_of_chosen_run g k (suc d)).run.units =
         ap (λ (j : ChosenRun). j.run.units) (steps-first g k d) in

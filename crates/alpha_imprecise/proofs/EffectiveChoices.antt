@@ -16,7 +16,7 @@ use Rattle.alpha_imprecise.specs.StepResult.{Trap, Choice, with_register, Imprec
 use Rattle.alpha_imprecise.specs.StepResult.{Reported, Lost, StepResult, step_result}
 use Rattle.alpha_imprecise.specs.Step.{triggers, can_wait, unpredictable_state, unpredictable_conditional, report}
 use Rattle.alpha_imprecise.specs.Step.{completed, address_at, imprecise_step_at, imprecise_step, triggered, precisely}
-use Rattle.alpha_imprecise.specs.Step.{waited, adds_here, destination}
+use Rattle.alpha_imprecise.specs.Step.{waited, adds_here, trap_destination}
 use Rattle.alpha_imprecise.specs.Run.{seen_of, choice_of, given_to, next_step_result}
 use Rattle.alpha_imprecise.proofs.ReportLandings.{report_at}
 
@@ -129,14 +129,15 @@ HasEffectiveChoice-waited : (o : Option Class) (s : State) (t : Trap) (c : Choic
     → waited o s t (effective_choice o c) ≡ waited o s t c
 HasEffectiveChoice-waited o s t c =
     ap (λ (u : State). step_result u
-    (Some (record t { mask = cond (c.adds && adds_here o) (with_register t.mask (destination o)) t.mask }))
+    (Some (record t { mask = cond (c.adds && adds_here o) (with_register t.mask (trap_destination o)) t.mask }))
     (Waited ((c.adds && adds_here o) && adds_here o) c.value c.bytes))
     (HasEffectiveChoice-unpredictable o s c)
     ∙ (ap (λ (n : ℕ). step_result (unpredictable_state o s c) (Some (record t { mask = n }))
     (Waited ((c.adds && adds_here o) && adds_here o) c.value c.bytes))
-    (mask-same c.adds (eqb (destination o) 31) t.mask (bit_or t.mask (2 ^ destination o)))
+    (mask-same c.adds (eqb (trap_destination o) 31) t.mask (bit_or t.mask (2 ^ trap_destination o)))
     ∙ ap (λ (b : Bool). step_result (unpredictable_state o s c)
-    (Some (record t { mask = cond c.adds (with_register t.mask (destination o)) t.mask })) (Waited b c.value c.bytes))
+    (Some (record t { mask = cond c.adds (with_register t.mask (trap_destination o)) t.mask }))
+    (Waited b c.value c.bytes))
     (and-twice c.adds (adds_here o)))
 
 -- ---- the step
@@ -192,27 +193,27 @@ pub next_step_result-by : (g : Program) (a : StepResult) (c : Choice) (h : Impre
 next_step_result-by g a c h same = ap (next_step_result g a) (sym same) ∙ next_step_result-same g a c (given_to h)
 
 -- over what it is given it is the same step
-pub given_same : (g : Program) (a : StepResult) (c : Choice) (input : List ℕ)
+pub imprecise_step-given_input : (g : Program) (a : StepResult) (c : Choice) (input : List ℕ)
     → imprecise_step g a.state a.pending c (given_to (imprecise_step g a.state a.pending c input).last_event)
     ≡ imprecise_step g a.state a.pending c input
-given_same g a c input =
+imprecise_step-given_input g a c input =
     let f = imprecise_step-HasEffectiveChoice g a.state a.pending c in
     ap (imprecise_step g a.state a.pending c) (f.gives input) ∙ sym (f.only input)
 
 -- over each input that gives it that, a step by this choice went so
-pub over_by : (g : Program) (a : StepResult) (c : Choice) (h : ImpreciseEvent) (input : List ℕ)
+pub imprecise_step-over_input : (g : Program) (a : StepResult) (c : Choice) (h : ImpreciseEvent) (input : List ℕ)
     → (imprecise_step g a.state a.pending c (given_to h)).last_event ≡ h
     → given_to h ≡ take (asked_for h) input
     → imprecise_step g a.state a.pending c input ≡ imprecise_step g a.state a.pending c (given_to h)
-over_by g a c h input same fed =
+imprecise_step-over_input g a c h input same fed =
     let q = imprecise_step-HasEffectiveChoice g a.state a.pending c in
     let count : asked_for h ≡ q.count = ap asked_for (sym same) ∙ q.asks (given_to h) in
     q.only input ∙ ap (imprecise_step g a.state a.pending c) (sym (fed ∙ ap (λ n. take n input) count))
 
 -- and it is given as much as it asks for, or all that there is
-pub fed_by : (g : Program) (a : StepResult) (c : Choice) (input : List ℕ)
+pub given_to-take_asked : (g : Program) (a : StepResult) (c : Choice) (input : List ℕ)
     → let h = (imprecise_step g a.state a.pending c input).last_event in given_to h ≡ take (asked_for h) input
-fed_by g a c input =
+given_to-take_asked g a c input =
     let f = imprecise_step-HasEffectiveChoice g a.state a.pending c in
     f.gives input ∙ ap (λ n. take n input) (sym (f.asks input))
 
@@ -221,18 +222,20 @@ fed_by g a c input =
 abbrev pub left_behind : ImpreciseEvent → List ℕ → List ℕ
 left_behind h input = drop (length (given_to h)) input
 
-pub fed_split : (h : ImpreciseEvent) (events : List Event) (input left : List ℕ) → Fed input (seen_of h ++ events) left
+pub Fed-split_event : (h : ImpreciseEvent) (events : List Event) (input left : List ℕ)
+    → Fed input (seen_of h ++ events) left
     → (given_to h ≡ take (asked_for h) input) × Fed (left_behind h input) events left
-fed_split (Precisely event) events input left fed = fed
-fed_split (Triggered value) events input left fed = (refl, fed)
-fed_split (Waited adds value bytes) events input left fed = (refl, fed)
-fed_split (Reported at) events input left fed = fed
-fed_split (Lost pc mask) events input left fed = (refl, fed)
+Fed-split_event (Precisely event) events input left fed = fed
+Fed-split_event (Triggered value) events input left fed = (refl, fed)
+Fed-split_event (Waited adds value bytes) events input left fed = (refl, fed)
+Fed-split_event (Reported at) events input left fed = fed
+Fed-split_event (Lost pc mask) events input left fed = (refl, fed)
 
-pub fed_join : (h : ImpreciseEvent) (events : List Event) (input left : List ℕ) → given_to h ≡ take (asked_for h) input
+pub Fed-join_event : (h : ImpreciseEvent) (events : List Event) (input left : List ℕ)
+    → given_to h ≡ take (asked_for h) input
     → Fed (left_behind h input) events left → Fed input (seen_of h ++ events) left
-fed_join (Precisely event) events input left gave fed = (gave, fed)
-fed_join (Triggered value) events input left gave fed = fed
-fed_join (Waited adds value bytes) events input left gave fed = fed
-fed_join (Reported at) events input left gave fed = (refl, fed)
-fed_join (Lost pc mask) events input left gave fed = fed
+Fed-join_event (Precisely event) events input left gave fed = (gave, fed)
+Fed-join_event (Triggered value) events input left gave fed = fed
+Fed-join_event (Waited adds value bytes) events input left gave fed = fed
+Fed-join_event (Reported at) events input left gave fed = (refl, fed)
+Fed-join_event (Lost pc mask) events input left gave fed = fed

@@ -61,16 +61,16 @@ imprecise_step_at-Counts g o s (Some t) c input = by (c.report || not (can_wait 
     by true = counts_found g s t (scan g.image s.pc t.mask)
     by false = record { counted = refl; nothing_pending = λ event e. cc; held = λ u is event e. cc }
 
-pub all_counted : (g : Program) (hs : List ImpreciseEvent) (a b : StepResult) → RunsImprecisely g a hs b
+pub units-length_seen : (g : Program) (hs : List ImpreciseEvent) (a b : StepResult) → RunsImprecisely g a hs b
     → units g a hs + pending_count a.pending ≡ length (seen hs) + pending_count b.pending
-all_counted g [] a b run = ap (λ (m : StepResult). 0 + pending_count m.pending) run
-all_counted g (h ∷ hs) a b run =
+units-length_seen g [] a b run = ap (λ (m : StepResult). 0 + pending_count m.pending) run
+units-length_seen g (h ∷ hs) a b run =
     let m = next_step_result g a h in
     let one =
     (imprecise_step_at-Counts g (next_class g a.state.pc) a.state a.pending (choice_of h) (given_to h)).counted in
     let one_is : unit_of a.pending + pending_count a.pending ≡ length (seen_of h) + pending_count m.pending =
     one ∙ ap (λ (x : ImpreciseEvent). length (seen_of x) + pending_count m.pending) run.1 in
-    let rest = all_counted g hs m b run.2 in
+    let rest = units-length_seen g hs m b run.2 in
     omega (arith, one_is, rest, length-append (seen_of h) (seen hs))
 
 pub RunsImprecisely-nothing_pending : (g : Program) (hs : List ImpreciseEvent) (a b : StepResult)
@@ -94,10 +94,10 @@ pub run_last : (g : Program) (events : List Event) (a b : Stepped) → Runs g a 
 run_last g [] a b run = ap (λ (c : Stepped). c.event) (sym run)
 run_last g (e ∷ events) a b run = run_last g events (next g a e) b run.2 ∙ ap (λ (x : Event). last_event x events) run.1
 
-pub last_more : (event : Event) (xs : List Event) (e : Event) (ys : List Event)
+pub last_event-append : (event : Event) (xs : List Event) (e : Event) (ys : List Event)
     → last_event event (xs ++ e ∷ ys) ≡ last_event e ys
-last_more event [] e ys = refl
-last_more event (x ∷ xs) e ys = last_more x xs e ys
+last_event-append event [] e ys = refl
+last_event-append event (x ∷ xs) e ys = last_event-append x xs e ys
 
 -- where a run has just gone precisely, that is the last that was seen
 pub seen_steps-last : (g : Program) (hs : List ImpreciseEvent) (a b : StepResult) (event before : Event)

@@ -13,7 +13,7 @@ use Rattle.alpha_imprecise.specs.Chosen.{waited_after, Draws}
 use Rattle.alpha_imprecise.specs.ChosenRun.{first_words}
 use Rattle.alpha_imprecise.specs.Oracle.{Oracle, OracleDraws}
 use Rattle.alpha_imprecise.proofs.WordDraws.{words_drawn}
-use Rattle.alpha_imprecise.proofs.FreshRuns.{told_starts}
+use Rattle.alpha_imprecise.proofs.FreshRuns.{OracleDraws-Starts}
 
 -- ---- the words that are told
 
@@ -33,10 +33,10 @@ empty-from_length [] e = refl
 empty-from_length (x ∷ l) e = absurd (omega (arith, e))
 
 -- those that a chooser went on by are the first ones that it tells
-pub told_words : (before after : Oracle) (ahead : ℕ → ℕ) (words : List ℕ) → before.ahead ≡ Some ahead
+pub OracleDraws-first_words : (before after : Oracle) (ahead : ℕ → ℕ) (words : List ℕ) → before.ahead ≡ Some ahead
     → OracleDraws before after words → first_words (length words) ahead ≡ words
-told_words before after ahead words tells drew =
-    let s = told_starts before after ahead words (length words) tells drew (omega arith) in
+OracleDraws-first_words before after ahead words tells drew =
+    let s = OracleDraws-Starts before after ahead words (length words) tells drew (omega arith) in
     let size = ap (λ (l : List ℕ). length l) s.is in
     let none =
     empty-from_length s.coming (omega (arith, length-append words s.coming, length-first (length words) ahead, size)) in

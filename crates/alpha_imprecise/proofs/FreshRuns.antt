@@ -39,7 +39,8 @@ Starts-first_words [] n ahead low same = record { coming = first_words n ahead; 
 Starts-first_words (word ∷ words) zero ahead low same = absurd (omega arith)
 Starts-first_words (word ∷ words) (suc n) ahead low same =
     let rest =
-    Starts-first_words words n (λ k. ahead (suc k)) (omega (arith, low)) (λ k below. same (suc k) (omega (arith, below))) in
+    Starts-first_words words n (λ k. ahead (suc k)) (omega (arith, low))
+    (λ k below. same (suc k) (omega (arith, below))) in
     record {
       coming = rest.coming;
       is = ap (λ w. w ∷ first_words n (λ k. ahead (suc k))) (same 0 (omega arith)) ∙ ap (λ l. word ∷ l) rest.is;
@@ -51,9 +52,9 @@ went_ahead ahead None words went = absurd went
 went_ahead ahead (Some rest) words went = went.0
 
 -- the words that a chooser went on by begin those that it tells
-pub told_starts : (before after : Oracle) (ahead : ℕ → ℕ) (words : List ℕ) (n : ℕ) → before.ahead ≡ Some ahead
+pub OracleDraws-Starts : (before after : Oracle) (ahead : ℕ → ℕ) (words : List ℕ) (n : ℕ) → before.ahead ≡ Some ahead
     → OracleDraws before after words → length words ≤ n
     → Starts words (first_words n ahead)
-told_starts before after ahead words n tells drew low =
+OracleDraws-Starts before after ahead words n tells drew low =
     Starts-first_words words n ahead low
     (went_ahead ahead after.ahead words (subst (λ o. ConsumesWords o after.ahead words) tells drew.went))

@@ -5,7 +5,7 @@ use Rattle.alpha_seq.specs.FastSteps.{FastSteps}
 use Rattle.alpha_imprecise.specs.ImpreciseState.{ImpreciseState, imprecise_state}
 use Rattle.alpha_imprecise.specs.ImpreciseStepEffect.{ImpreciseRetires}
 use Rattle.alpha_imprecise.specs.ImpreciseFastSteps.{ImpreciseFastSteps}
-use Rattle.alpha_imprecise.proofs.ChoicesMade.{continues-steps}
+use Rattle.alpha_imprecise.proofs.ChoicesMade.{ImpreciseRetires-Retires}
 
 -- those of the machine
 pub FastSteps-imprecise : (n : ℕ) (old new : Machine) → FastSteps n old new
@@ -14,7 +14,7 @@ FastSteps-imprecise zero old new same = ap (λ (m : Machine). imprecise_state m 
 FastSteps-imprecise (suc n) old new fast_steps = (
   imprecise_state fast_steps.0 None,
   FastSteps-imprecise n old fast_steps.0 fast_steps.1,
-  continues-steps fast_steps.0 new fast_steps.2,
+  ImpreciseRetires-Retires fast_steps.0 new fast_steps.2,
 )
 
 -- what holds of each number of steps, held of some, if each step leaves it to the next

@@ -6,7 +6,8 @@ use Rattle.alpha_seq.specs.Run.{Fed}
 use Rattle.alpha_imprecise.specs.StepResult.{Choice, ImpreciseEvent, StepResult}
 use Rattle.alpha_imprecise.specs.Step.{imprecise_step}
 use Rattle.alpha_imprecise.specs.Run.{seen_of, seen, finished, next_step_result, RunsImprecisely, units}
-use Rattle.alpha_imprecise.proofs.EffectiveChoices.{next_step_result-same, fed_by, fed_join, left_behind}
+use Rattle.alpha_imprecise.proofs.EffectiveChoices.{next_step_result-same, given_to-take_asked, Fed-join_event}
+use Rattle.alpha_imprecise.proofs.EffectiveChoices.{left_behind}
 
 pub seen_steps-append : (xs ys : List ImpreciseEvent) → seen (xs ++ ys) ≡ seen xs ++ seen ys
 seen_steps-append xs ys = flat_map-append seen_of xs ys
@@ -40,8 +41,9 @@ units_of_steps-append g (x ∷ xs) ys a b run =
     omega (arith, rest)
 
 -- the input that fed the steps so far feeds one more
-pub fed-one : (g : Program) (a : StepResult) (c : Choice) (input : List ℕ)
+pub Fed-next_event : (g : Program) (a : StepResult) (c : Choice) (input : List ℕ)
     → let h = (imprecise_step g a.state a.pending c input).last_event in
     Fed input (seen_of h ++ []) (left_behind h input)
-fed-one g a c input =
-    fed_join (imprecise_step g a.state a.pending c input).last_event [] input _ (fed_by g a c input) refl
+Fed-next_event g a c input =
+    Fed-join_event (imprecise_step g a.state a.pending c input).last_event [] input _
+    (given_to-take_asked g a c input) refl

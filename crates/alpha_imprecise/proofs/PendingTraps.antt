@@ -37,15 +37,15 @@ record SettledAt (n : ℕ) (k : ChosenRun) : Type 0 where
   done : is_settled k ≡ true
   units : k.run.units ≡ n
 
-pub none_settled : (k : ChosenRun) → k.run.at.pending ≡ None → is_settled k ≡ true
-none_settled k e = by (finished k.run.at.last_event) (ap is_none e)
+pub is_settled-none_pending : (k : ChosenRun) → k.run.at.pending ≡ None → is_settled k ≡ true
+is_settled-none_pending k e = by (finished k.run.at.last_event) (ap is_none e)
   where
     by : (b : Bool) → is_none k.run.at.pending ≡ true → (b || is_none k.run.at.pending) ≡ true
     by true f = refl
     by false f = f
 
-pub over_settled : (k : ChosenRun) → finished k.run.at.last_event ≡ true → is_settled k ≡ true
-over_settled k e = ap (λ b. b || is_none k.run.at.pending) e
+pub is_settled-over : (k : ChosenRun) → finished k.run.at.last_event ≡ true → is_settled k ≡ true
+is_settled-over k e = ap (λ b. b || is_none k.run.at.pending) e
 
 -- what isn't settled has a trap pending, and goes on
 pub record IsOpen (k : ChosenRun) : Type 0 where
@@ -63,9 +63,9 @@ chosen_run-open k e = by (finished k.run.at.last_event) (k.run.at.pending) refl 
     by false None f q e = cc
     by false (Some t) f q e = record { t = t; pending = q; going = f }
 
-pub none_of : (o : Option Trap) → is_none o ≡ true → o ≡ None
-none_of None e = refl
-none_of (Some t) e = cc
+pub is_none-true : (o : Option Trap) → is_none o ≡ true → o ≡ None
+is_none-true None e = refl
+is_none-true (Some t) e = cc
 
 module _ (g : Program) where
   -- what a step with a trap pending leaves is settled, or one word more has waited
@@ -93,10 +93,10 @@ module _ (g : Program) where
       by : BecomesSettled k.waited (chosen g k.run.at.state k.run.at.pending k.waited k.words k.run.left)
           → SettledAt k.run.units (settled_within fuel g (stepped_chosen_run g k))
       by (none e) =
-          already fuel k.run.units (stepped_chosen_run g k) (none_settled (stepped_chosen_run g k) e)
+          already fuel k.run.units (stepped_chosen_run g k) (is_settled-none_pending (stepped_chosen_run g k) e)
           (stepped_units k h)
       by (over e) =
-          already fuel k.run.units (stepped_chosen_run g k) (over_settled (stepped_chosen_run g k) e)
+          already fuel k.run.units (stepped_chosen_run g k) (is_settled-over (stepped_chosen_run g k) e)
           (stepped_units k h)
       by (longer adds value bytes e low) =
           let count : (stepped_chosen_run g k).waited ≡ k.waited + 1 =
@@ -141,7 +141,7 @@ module _ (g : Program) where
   made_start : (k : ChosenRun) → k.run.at.pending ≡ None → k.run.units ≡ 0
       → HasUsed 0 (chosen_run g k 0).run.units (chosen_run g k 0).run.at
   made_start k e units =
-      let a = already (most_waited + 1) 0 k (none_settled k e) units in
+      let a = already (most_waited + 1) 0 k (is_settled-none_pending k e) units in
       record { settled = a.done; most = (let n = a.units in omega arith); full = λ going. a.units }
 
   made_more : (n : ℕ) (k : ChosenRun) → HasUsed n k.run.units k.run.at
@@ -162,7 +162,7 @@ module _ (g : Program) where
           }))
       by false e =
           let pending : k.run.at.pending ≡ None =
-          none_of k.run.at.pending (ap (λ b. b || is_none k.run.at.pending) (sym e) ∙ h.settled) in
+          is_none-true k.run.at.pending (ap (λ b. b || is_none k.run.at.pending) (sym e) ∙ h.settled) in
           let new = fresh k pending in
           let units : (stepped_chosen_run g k).run.units ≡ suc n =
           ap (λ (p : Option Trap). k.run.units + unit_of p) pending
@@ -205,10 +205,10 @@ module _ (g : Program) where
       by : IsOpen k → BecomesSettled k.waited (chosen g k.run.at.state k.run.at.pending k.waited k.words k.run.left)
           → SettledAt k.run.units (settled_within fuel g (stepped_chosen_run g k))
       by h (none e) =
-          already fuel k.run.units (stepped_chosen_run g k) (none_settled (stepped_chosen_run g k) e)
+          already fuel k.run.units (stepped_chosen_run g k) (is_settled-none_pending (stepped_chosen_run g k) e)
           (stepped_units k h)
       by h (over e) =
-          already fuel k.run.units (stepped_chosen_run g k) (over_settled (stepped_chosen_run g k) e)
+          already fuel k.run.units (stepped_chosen_run g k) (is_settled-over (stepped_chosen_run g k) e)
           (stepped_units k h)
       by h (longer adds value bytes e low) = absurd (omega (arith, late, low))
 

@@ -49,10 +49,10 @@ scan-lost image pc mask regs live kernel lost sized small is_kernel is_live is_l
     ∙ (sym (ap (place_of_trap image) is_lost) ∙ e)))
 
 -- and the handler has its PC and its mask
-pub lost-entry : (pc mask : ℕ) (regs live : List ℕ) (kernel : KernelState) (lost : Lost)
+pub trap_in-handler_trap : (pc mask : ℕ) (regs live : List ℕ) (kernel : KernelState) (lost : Lost)
     → length regs ≡ 32 → mask < 2 ^ 31 → kernel ≡ entered (arith_frame pc regs) regs → live ≡ arith_regs regs mask
     → lost ≡ trap_in kernel live → lost ≡ handler_trap pc mask
-lost-entry pc mask regs live kernel lost sized small is_kernel is_live is_lost =
+trap_in-handler_trap pc mask regs live kernel lost sized small is_kernel is_live is_lost =
     is_lost
     ∙ (ap (λ (k : KernelState). trap_in k live) is_kernel
     ∙ (ap (λ (l : List ℕ). trap_in (entered (arith_frame pc regs) regs) l) is_live
@@ -87,9 +87,9 @@ goes_at : (image : Parts) (completion : Completion) (regs : List ℕ) (at : ℕ)
 goes_at image completion regs at e = rw e refl
 
 -- an address behind a word is no less than 4
-pub goes_far : (image : Parts) (completion : Completion) (pc mask : ℕ) (regs : List ℕ) (h : Handled)
+pub Scanned-pc_bound : (image : Parts) (completion : Completion) (pc mask : ℕ) (regs : List ℕ) (h : Handled)
     → Scanned image completion pc mask regs h → stops completion ≡ false → 4 ≤ h.pc
-goes_far image completion pc mask regs h found e =
+Scanned-pc_bound image completion pc mask regs h found e =
     let same : image.code_base + 4 * found.at + 4 ≡ h.pc =
     ap (λ (x : Handled). x.pc) (sym (goes_at image completion regs found.at e) ∙ found.is) in
     omega arith

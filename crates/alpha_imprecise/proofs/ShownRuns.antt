@@ -17,10 +17,11 @@ use Rattle.alpha_imprecise.specs.ChosenRun.{shown_chosen_run}
 use Rattle.alpha_imprecise.specs.Restart.{Follows, Agrees, IsRestartable}
 use Rattle.alpha_imprecise.specs.Shown.{SameRun, ChoicesAlike, ShowsSame, RunsAlike}
 use Rattle.alpha_imprecise.proofs.DrawnRuns.{chosen_run-over}
-use Rattle.alpha_imprecise.proofs.EventCounts.{pending_count, all_counted, RunsImprecisely-nothing_pending, last_event}
+use Rattle.alpha_imprecise.proofs.EventCounts.{pending_count, units-length_seen, RunsImprecisely-nothing_pending}
+use Rattle.alpha_imprecise.proofs.EventCounts.{last_event}
 use Rattle.alpha_imprecise.proofs.EventCounts.{run_last, seen_steps-last}
 use Rattle.alpha_imprecise.proofs.EventCounts.{run-not_finished}
-use Rattle.alpha_imprecise.proofs.PendingTraps.{none_of, made_is}
+use Rattle.alpha_imprecise.proofs.PendingTraps.{is_none-true, made_is}
 
 no_end : (event : Event) → is_over event ≡ false → end_of event ≡ None
 no_end Went e = refl
@@ -62,7 +63,7 @@ module _ (n : ℕ) (g : Program) (s : State) (steps : List ImpreciseEvent) (w : 
   nothing_pending = by w.last_event refl
     where
       going : finished w.last_event ≡ false → w.pending ≡ None
-      going e = none_of w.pending (ap (λ b. b || is_none w.pending) (sym e) ∙ used.settled)
+      going e = is_none-true w.pending (ap (λ b. b || is_none w.pending) (sym e) ∙ used.settled)
 
       by : (x : ImpreciseEvent) → w.last_event ≡ x → w.pending ≡ None
       by (Precisely event) e =
@@ -77,7 +78,7 @@ module _ (n : ℕ) (g : Program) (s : State) (steps : List ImpreciseEvent) (w : 
 
   count : units g (imprecise_start s) steps ≡ length (seen steps)
   count =
-      let all = all_counted g steps (imprecise_start s) w runs in
+      let all = units-length_seen g steps (imprecise_start s) w runs in
       let none : pending_count w.pending ≡ 0 = ap pending_count nothing_pending in
       omega (arith, all, none)
 

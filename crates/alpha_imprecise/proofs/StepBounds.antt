@@ -10,7 +10,7 @@ use Rattle.alpha_imprecise.specs.ChosenRun.{settled_within, settled, chosen_run,
 use Rattle.alpha_imprecise.specs.ChosenRun.{Waiting, Settled, Finished}
 use Rattle.alpha_imprecise.proofs.ChosenRuns.{BecomesSettled, none, over, longer, chosen_settles}
 use Rattle.alpha_imprecise.proofs.PendingTraps.{stepped_chosen_run, advance_chosen_run-going, stays_settled}
-use Rattle.alpha_imprecise.proofs.PendingTraps.{none_settled}
+use Rattle.alpha_imprecise.proofs.PendingTraps.{is_settled-none_pending}
 
 module _ (g : Program) where
   -- a step before so many is one behind them
@@ -85,7 +85,8 @@ module _ (g : Program) where
       → IsWithin (most_steps n) g k (chosen_run g k n)
   IsWithin-nothing_pending k n calm =
       let start =
-      subst (IsWithin 0 g k) (sym (stays_settled (most_waited + 1) g k (none_settled k calm))) (none_more 0 k) in
+      subst (IsWithin 0 g k) (sym (stays_settled (most_waited + 1) g k (is_settled-none_pending k calm)))
+      (none_more 0 k) in
       let same : 0 + most_steps n ≡ most_steps n = omega arith in
       subst (λ m. IsWithin m g k (chosen_run g k n)) same (made_takes 0 k start n)
 

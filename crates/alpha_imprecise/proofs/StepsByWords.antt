@@ -62,7 +62,8 @@ drawn_where b words =
     cond b (reporting 0)
     (cond (first_word words % 4 == 0) (reporting 1) (executing (first_word words) (first_word (drop 1 words))))
 
-draw_at-must_report : (m : Machine) (trap : Pending) (b : Bool) → must_report (class_here m) (state_of m) trap.waited ≡ b
+draw_at-must_report : (m : Machine) (trap : Pending) (b : Bool)
+    → must_report (class_here m) (state_of m) trap.waited ≡ b
     → (words : List ℕ)
     → draw_at (class_here m) (state_of m) (Some (trap_of trap)) trap.waited words ≡ drawn_where b words
 draw_at-must_report m trap b e words = ap (λ (t : Bool). drawn_where t words) e
@@ -138,11 +139,11 @@ with_words choice old new p before after by d = record {
   draws = d.draws;
 }
 
-pub words-make : {C : Type 0} (ahead : C → Option (ℕ → ℕ)) (drawn : C → Option ℕ) (event : SeenEvent)
+pub ImpreciseStepMade-words : {C : Type 0} (ahead : C → Option (ℕ → ℕ)) (drawn : C → Option ℕ) (event : SeenEvent)
     (old new : ImpreciseState) (before after : C) (input : Drawn) (out : SinkChange)
     → StepMadeByChoice (reads_pick ahead drawn) (reads_value ahead drawn) event old new before after input out
     → ImpreciseStepMade event old new (oracle_of ahead drawn before) (oracle_of ahead drawn after) input out
-words-make ahead drawn event old new before after input out made =
+ImpreciseStepMade-words ahead drawn event old new before after input out made =
     let d = picked_draws ahead drawn old.machine old.pending made.choice before after made.picked in
     let did = made.effect in
     record {
@@ -159,11 +160,11 @@ words-make ahead drawn event old new before after input out made =
       wrote = did.wrote;
     }
 
-pub words-break : {C : Type 0} (ahead : C → Option (ℕ → ℕ)) (drawn : C → Option ℕ) (fault : Fault)
+pub ImpreciseStepFaulted-words : {C : Type 0} (ahead : C → Option (ℕ → ℕ)) (drawn : C → Option ℕ) (fault : Fault)
     (old new : ImpreciseState) (before after : C) (input : Drawn) (out : SinkChange)
     → StepFaultedByChoice (reads_pick ahead drawn) (reads_value ahead drawn) fault old new before after input out
     → ImpreciseStepFaulted fault old new (oracle_of ahead drawn before) (oracle_of ahead drawn after) input out
-words-break ahead drawn fault old new before after input out broken =
+ImpreciseStepFaulted-words ahead drawn fault old new before after input out broken =
     let d = picked_draws ahead drawn old.machine old.pending broken.choice before after broken.picked in
     let did = broken.effect in
     record {

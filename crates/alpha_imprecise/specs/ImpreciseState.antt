@@ -13,7 +13,7 @@ use Rattle.alpha_seq.specs.Machine.{program_of, state_of, class_here, kernel_lef
 use Rattle.alpha_imprecise.specs.declared.pending.Pending.{Pending}
 use Rattle.alpha_imprecise.specs.StepResult.{Trap, Choice, with_register, ImpreciseEvent, Waited, StepResult}
 use Rattle.alpha_imprecise.specs.StepResult.{step_result}
-use Rattle.alpha_imprecise.specs.Step.{triggers, destination, can_wait, unpredictable_state}
+use Rattle.alpha_imprecise.specs.Step.{triggers, trap_destination, can_wait, unpredictable_state}
 use Rattle.alpha_imprecise.specs.ChosenRun.{ChosenRun, begun}
 
 -- the machine, and the trap that is pending
@@ -50,7 +50,7 @@ pub record IsFresh (w : ImpreciseState) : Type 0 where
 pub record OverflowsAt (m : Machine) (place rc : ℕ) : Type 0 where
   pub at : place_of m.image m.pc ≡ Some place
   pub overflows : triggers (class_here m) (state_of m) ≡ true
-  pub into : destination (class_here m) ≡ rc
+  pub into : trap_destination (class_here m) ≡ rc
 
 -- the word at the PC is of this class, and can be executed while a trap waits
 pub record WaitsAt (m : Machine) (class : Class) : Type 0 where
@@ -60,7 +60,7 @@ pub record WaitsAt (m : Machine) (class : Class) : Type 0 where
 -- the mask after a word of this class that was executed: one that may trap adds its destination, if the machine chooses
 -- so
 abbrev pub mask_after : Option Class → ℕ → Bool → ℕ
-mask_after o mask adds = if adds then with_register mask (destination o) else mask
+mask_after o mask adds = if adds then with_register mask (trap_destination o) else mask
 
 -- A word of this class was executed while a trap waits, by one value for its destination and its bytes.
 pub record ExecutesUnpredictable (class : Class) (value : ℕ) (old new : Machine) : Type 0 where

@@ -32,18 +32,18 @@ triggers (Some (trigger op ra src rc)) s = overflow_of op (reg s.regs ra) (sourc
 triggers _ s = false
 
 -- the destination of a word that may trap, R31 for any other word
-abbrev pub destination : Option Class → ℕ
-destination o = unwrap_or (trap_rc o) 31
+abbrev pub trap_destination : Option Class → ℕ
+trap_destination o = unwrap_or (trap_rc o) 31
 
 -- whether a word may add to the mask of a pending trap: it may trap, and its destination is not R31
 abbrev pub adds_here : Option Class → Bool
-adds_here o = not (destination o == 31)
+adds_here o = not (trap_destination o == 31)
 
 -- an overflow: the destination gets any value, and the trap of the word at the PC is pending
 abbrev pub triggered : Program → Option Class → State → Choice → StepResult
 triggered g o s c =
-    step_result (setting s (destination o) c.value)
-    (Some (record { place = unwrap_or (place_of g.image s.pc) 0; mask = with_register 0 (destination o) }))
+    step_result (setting s (trap_destination o) c.value)
+    (Some (record { place = unwrap_or (place_of g.image s.pc) 0; mask = with_register 0 (trap_destination o) }))
     (Triggered c.value)
 
 -- a precise step
@@ -128,7 +128,7 @@ unpredictable_state o s c = s
 abbrev pub waited : Option Class → State → Trap → Choice → StepResult
 waited o s t c =
     step_result (unpredictable_state o s c)
-    (Some (record t { mask = (if c.adds then with_register t.mask (destination o) else t.mask) }))
+    (Some (record t { mask = (if c.adds then with_register t.mask (trap_destination o) else t.mask) }))
     (Waited (c.adds && adds_here o) c.value c.bytes)
 
 -- ---- the step

@@ -4,7 +4,7 @@ ghost use Rattle.std.specs.Prelude.{◌≡◌, true, false, IfSome, IfNone, Some
 ghost use Rattle.alpha_table.specs.ClassOf.{class_of};
 ghost use Rattle.alpha_seq.specs.Next.{next_insn};
 ghost use Rattle.alpha_seq.specs.Machine.{program_of, class_here, state_of};
-ghost use Rattle.alpha_imprecise.specs.Step.{triggers, destination, can_wait};
+ghost use Rattle.alpha_imprecise.specs.Step.{triggers, trap_destination, can_wait};
 ghost use Rattle.alpha_imprecise.specs.ImpreciseState.{OverflowsAt, WaitsAt};
 
 use alpha_seq::{Machine, Next};
@@ -40,7 +40,7 @@ pub(crate) fn overflow_of(machine: &Machine, insn: &Insn) -> Option<Overflow>
 fn overflow_destination(machine: &Machine, insn: &Insn) -> Option<Reg>
     ensures found { IfSome result (λ rc. triggers (Some (class_of insn.now)) (state_of machine.now)
         ≡ true) }
-    ensures into { IfSome result (λ rc. destination (Some (class_of insn.now)) ≡ rc) }
+    ensures into { IfSome result (λ rc. trap_destination (Some (class_of insn.now)) ≡ rc) }
     ensures none { IfNone result (triggers (Some (class_of insn.now)) (state_of machine.now) ≡ false) }
 {
     let Form::Operate { op, ra, src, rc } = insn.form() else {

@@ -8,7 +8,7 @@ ghost use Rattle.alpha_seq.specs.Machine.{class_here, program_of, state_of};
 ghost use Rattle.alpha_seq.specs.Devices.{drawn};
 ghost use Rattle.alpha_imprecise.specs.Chosen.{reporting, triggering};
 ghost use Rattle.alpha_imprecise.specs.StepResult.{Triggered, with_register};
-ghost use Rattle.alpha_imprecise.specs.Step.{triggers, destination, adds_here};
+ghost use Rattle.alpha_imprecise.specs.Step.{triggers, trap_destination, adds_here};
 ghost use Rattle.alpha_imprecise.specs.ChoiceSource.{choice_by};
 ghost use Rattle.alpha_imprecise.specs.ImpreciseState.{mask_after, imprecise_state, OverflowsAt, WaitsAt};
 ghost use Rattle.alpha_imprecise.specs.ImpreciseStepEffect.{ImpreciseStepBy, imprecise_units, imprecise_core};
@@ -52,15 +52,15 @@ pub(crate) fn step<P: ChoiceSource, S: Source, K: Sink>(
     ensures bound { IfSome pending.new (λ p. p.waited ≤ 1024) }
 {
     match *pending {
-        None => with_none(machine, pending, choices, input, out),
-        Some(trap) => Ok(with_trap(machine, pending, &trap, choices)),
+        None => step_with_none_pending(machine, pending, choices, input, out),
+        Some(trap) => Ok(step_with_pending(machine, pending, &trap, choices)),
     }
 }
 
 // Makes a step with nothing pending. The loop of a run has made most steps that only go on before, so this is rare, and
 // never inlined there.
 #[inline(never)]
-fn with_none<P: ChoiceSource, S: Source, K: Sink>(
+fn step_with_none_pending<P: ChoiceSource, S: Source, K: Sink>(
     machine: &mut Machine,
     pending: &mut Option<Pending>,
     choices: &mut P,
@@ -98,7 +98,7 @@ fn with_none<P: ChoiceSource, S: Source, K: Sink>(
 
 // Makes a step while a trap is pending.
 #[inline(always)]
-fn with_trap<P: ChoiceSource>(
+fn step_with_pending<P: ChoiceSource>(
     machine: &mut Machine,
     pending: &mut Option<Pending>,
     trap: &Pending,
@@ -203,7 +203,7 @@ fn wait(
 fn adds_here(insn: &Insn) -> bool
     ensures { result ≡ adds_here (Some (class_of insn.now)) }
 {
-    destination(insn) != Reg::ZERO
+    trap_destination(insn) != Reg::ZERO
 }
 
 // The mask after an instruction, which adds its destination to it where that is asked for.
@@ -212,7 +212,7 @@ fn mask_after(insn: &Insn, mask: RegSet, adds: bool) -> RegSet
     ensures { result ≡ mask_after (Some (class_of insn.now)) mask adds }
 {
     if adds {
-        mask_with(mask, destination(insn))
+        mask_with(mask, trap_destination(insn))
     } else {
         mask
     }
@@ -220,8 +220,8 @@ fn mask_after(insn: &Insn, mask: RegSet, adds: bool) -> RegSet
 
 // The destination of an instruction that may trap, R31 for every other one.
 #[inline(always)]
-fn destination(insn: &Insn) -> Reg
-    ensures { result ≡ destination (Some (class_of insn.now)) }
+fn trap_destination(insn: &Insn) -> Reg
+    ensures { result ≡ trap_destination (Some (class_of insn.now)) }
 {
     match insn.form() {
         Form::Operate { op, rc, .. } => match op.trap() {

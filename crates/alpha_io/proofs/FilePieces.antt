@@ -41,8 +41,8 @@ IsReadTo-more old new after name bytes more p so some is then =
     }
 
 -- a piece of some bytes isn't empty
-pub some_bytes : (n : ℕ) (piece : List ℕ) → n ≡ length piece → n ≢ 0 → piece ≢ []
-some_bytes n piece size some = λ none. some (size ∙ ap (λ (l : List ℕ). length l) none)
+pub piece-not_nil : (n : ℕ) (piece : List ℕ) → n ≡ length piece → n ≢ 0 → piece ≢ []
+piece-not_nil n piece size some = λ none. some (size ∙ ap (λ (l : List ℕ). length l) none)
 
 pub IsReadTo-whole : (old new after : List Reply) (name bytes : List ℕ) → IsReadTo old new name bytes
     → after ≡ new ++ Piece name (length bytes) (Some []) ∷ [] → IsReadWhole old after name bytes
@@ -142,10 +142,10 @@ one_read old first second name file other xs ys read again same =
     ∙ sym (from_end again))) in (one, (moment, rest))
 
 -- what was read whole between two moments is one file
-pub one_file : (old new : List Reply) (name first second : List ℕ) → IsReadWhole old new name first
+pub IsReadWhole-unique : (old new : List Reply) (name first second : List ℕ) → IsReadWhole old new name first
     → IsReadWhole old new name second
     → first ≡ second
-one_file old new name first second one other = (one_read old new new name first second [] [] one other refl).0
+IsReadWhole-unique old new name first second one other = (one_read old new new name first second [] [] one other refl).0
 
 -- a file that was read up to some place wasn't read whole before
 unended_before : (old new middle ys : List Reply) (name bytes file : List ℕ) → IsReadTo old new name bytes
@@ -174,12 +174,13 @@ part-not_whole old new middle ys name file (before, bytes, so, inl is) whole the
 part-not_whole old new middle ys name file (before, bytes, so, inr is) whole then =
     ungiven_before old before new middle ys name bytes file (length bytes) so is whole then
 
-pub unended_file : (old new : List Reply) (name bytes file : List ℕ) → IsReadTo old new name bytes
+pub IsReadTo-not_whole : (old new : List Reply) (name bytes file : List ℕ) → IsReadTo old new name bytes
     → IsReadWhole old new name file → ⊥
-unended_file old new name bytes file so whole =
+IsReadTo-not_whole old new name bytes file so whole =
     unended_before old new new [] name bytes file so whole (sym (append-nil new))
 
-pub ungiven_file : (old new after : List Reply) (name bytes file : List ℕ) (at : ℕ) → IsReadTo old new name bytes
+pub IsReadTo-failed_not_whole : (old new after : List Reply) (name bytes file : List ℕ) (at : ℕ)
+    → IsReadTo old new name bytes
     → after ≡ new ++ Piece name at None ∷ [] → IsReadWhole old after name file → ⊥
-ungiven_file old new after name bytes file at so is whole =
+IsReadTo-failed_not_whole old new after name bytes file at so is whole =
     ungiven_before old new after after [] name bytes file at so is whole (sym (append-nil after))

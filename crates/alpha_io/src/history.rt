@@ -30,7 +30,13 @@ impl History {
     }
 
     /// Notes what a call of `piece` of a shelf answered, which filled the buffer.
-    pub(crate) fn note_piece(&mut self, name: &str, at: u64, answer: Result<usize, Failed>, buf: &[u8])
+    pub(crate) fn note_piece(
+        &mut self,
+        name: &str,
+        at: u64,
+        answer: Result<usize, Failed>,
+        buf: &[u8],
+    )
         requires { ReadsAtMost answer buf.now }
         ensures { self.new.replies ≡ self.old.replies ++ piece_reply name.now at answer buf.now ∷ [] }
     {

@@ -25,18 +25,19 @@ use Rattle.alpha_link.proofs.NameAddresses.{first_append, take-next_module}
 use Rattle.alpha_link.proofs.LoopLists.{drop-get_or, drop-past_end}
 
 -- elements of two lists one behind the other
-pub get-used_symbols : {X : Type 0} (xs ys : List X) (k : ℕ) → k < length xs → slice_get (xs ++ ys) k ≡ slice_get xs k
-get-used_symbols [] ys k h = absurd (omega arith)
-get-used_symbols (x ∷ xs) ys zero h = refl
-get-used_symbols (x ∷ xs) ys (suc k) h = get-used_symbols xs ys k (omega arith)
+pub slice_get-append_left : {X : Type 0} (xs ys : List X) (k : ℕ) → k < length xs
+    → slice_get (xs ++ ys) k ≡ slice_get xs k
+slice_get-append_left [] ys k h = absurd (omega arith)
+slice_get-append_left (x ∷ xs) ys zero h = refl
+slice_get-append_left (x ∷ xs) ys (suc k) h = slice_get-append_left xs ys k (omega arith)
 
-pub get_behind : {X : Type 0} (xs ys : List X) (k : ℕ) → length xs ≤ k
+pub slice_get-append_right : {X : Type 0} (xs ys : List X) (k : ℕ) → length xs ≤ k
     → slice_get (xs ++ ys) k ≡ slice_get ys (k - length xs)
-get_behind [] ys k h = let e : k ≡ k - 0 = omega arith in ap (slice_get ys) e
-get_behind (x ∷ xs) ys zero h = absurd (omega arith)
-get_behind (x ∷ xs) ys (suc k) h =
+slice_get-append_right [] ys k h = let e : k ≡ k - 0 = omega arith in ap (slice_get ys) e
+slice_get-append_right (x ∷ xs) ys zero h = absurd (omega arith)
+slice_get-append_right (x ∷ xs) ys (suc k) h =
     let e : k - length xs ≡ suc k - suc (length xs) = omega arith in
-    get_behind xs ys k (omega arith) ∙ ap (slice_get ys) e
+    slice_get-append_right xs ys k (omega arith) ∙ ap (slice_get ys) e
 
 get_dropped : {X : Type 0} (c : ℕ) (xs : List X) (i : ℕ) → slice_get (drop c xs) i ≡ slice_get xs (c + i)
 get_dropped zero xs i = let e : i ≡ 0 + i = omega arith in ap (slice_get xs) e
@@ -52,11 +53,11 @@ get_taken (suc m) [] i h = refl
 get_taken (suc m) (x ∷ xs) zero h = refl
 get_taken (suc m) (x ∷ xs) (suc i) h = get_taken m xs i (omega arith)
 
-pub get_before : {X : Type 0} (m : ℕ) (xs : List X) (i : ℕ) → i < m → slice_get (take m xs) i ≡ slice_get xs i
-get_before zero xs i h = absurd (omega arith)
-get_before (suc m) [] i h = refl
-get_before (suc m) (x ∷ xs) zero h = refl
-get_before (suc m) (x ∷ xs) (suc i) h = get_before m xs i (omega arith)
+pub slice_get-take : {X : Type 0} (m : ℕ) (xs : List X) (i : ℕ) → i < m → slice_get (take m xs) i ≡ slice_get xs i
+slice_get-take zero xs i h = absurd (omega arith)
+slice_get-take (suc m) [] i h = refl
+slice_get-take (suc m) (x ∷ xs) zero h = refl
+slice_get-take (suc m) (x ∷ xs) (suc i) h = slice_get-take m xs i (omega arith)
 
 -- what stands from a place on is all of what is behind it
 rest_length : {X : Type 0} (n : ℕ) (xs : List X) → length (drop n xs) ≡ length xs - n
@@ -70,32 +71,33 @@ all_taken zero (x ∷ xs) h = absurd (omega arith)
 all_taken (suc n) [] h = refl
 all_taken (suc n) (x ∷ xs) h = ap (λ (l : List _). x ∷ l) (all_taken n xs (omega arith))
 
-pub from_place : {X : Type 0} (n : ℕ) (xs : List X) → take (length xs - n) (drop n xs) ≡ drop n xs
-from_place n xs = all_taken (length xs - n) (drop n xs) (omega (arith, rest_length n xs))
+pub take-drop_all : {X : Type 0} (n : ℕ) (xs : List X) → take (length xs - n) (drop n xs) ≡ drop n xs
+take-drop_all n xs = all_taken (length xs - n) (drop n xs) (omega (arith, rest_length n xs))
 
 -- an element of a part of a list
-pub at_place : {X : Type 0} (xs part : List X) (c m i : ℕ) → take m (drop c xs) ≡ part → i < length part
+pub slice_get-part : {X : Type 0} (xs part : List X) (c m i : ℕ) → take m (drop c xs) ≡ part → i < length part
     → slice_get xs (c + i) ≡ slice_get part i
-at_place {X} xs part c m i e h =
+slice_get-part {X} xs part c m i e h =
     let inside : i < length (take m (drop c xs)) = subst (λ (l : List X). i < length l) (sym e) h in
     sym (get_dropped c xs i) ∙ (sym (get_taken m (drop c xs) i inside) ∙ ap (λ (l : List X). slice_get l i) e)
 
-pub get_push : {X : Type 0} (xs : List X) (y : X) (k : ℕ) (x : X) → slice_get (xs ++ y ∷ []) k ≡ Some x
+pub slice_get-snoc : {X : Type 0} (xs : List X) (y : X) (k : ℕ) (x : X) → slice_get (xs ++ y ∷ []) k ≡ Some x
     → (slice_get xs k ≡ Some x) ⊎ ((k ≡ length xs) × (x ≡ y))
-get_push [] y zero x h = inr (refl, same_Some x y (sym h))
-get_push [] y (suc k) x h = absurd (none-some x h)
-get_push (z ∷ xs) y zero x h = inl h
-get_push (z ∷ xs) y (suc k) x h = elim (get_push xs y k x h) [ inl e ↦ inl e | inr e ↦ inr (ap suc e.0, e.1) ]
+slice_get-snoc [] y zero x h = inr (refl, same_Some x y (sym h))
+slice_get-snoc [] y (suc k) x h = absurd (none-some x h)
+slice_get-snoc (z ∷ xs) y zero x h = inl h
+slice_get-snoc (z ∷ xs) y (suc k) x h =
+    elim (slice_get-snoc xs y k x h) [ inl e ↦ inl e | inr e ↦ inr (ap suc e.0, e.1) ]
 
-pub take_next : {X : Type 0} (xs : List X) (n : ℕ) (x : X) → slice_get xs n ≡ Some x
+pub take-snoc_next : {X : Type 0} (xs : List X) (n : ℕ) (x : X) → slice_get xs n ≡ Some x
     → take (n + 1) xs ≡ take n xs ++ x ∷ []
-take_next xs n x e =
+take-snoc_next xs n x e =
     take_more xs n x (slice_get_within xs n x e) ∙ ap (λ y. take n xs ++ y ∷ []) (get_or_from_slice_get xs n x x e)
 
-pub length-used_symbols : {X : Type 0} (xs : List X) (n : ℕ) → n < length xs → length (take n xs) ≡ n
-length-used_symbols [] n h = absurd (omega arith)
-length-used_symbols (x ∷ xs) zero h = refl
-length-used_symbols (x ∷ xs) (suc n) h = ap suc (length-used_symbols xs n (omega arith))
+pub length-take_lt : {X : Type 0} (xs : List X) (n : ℕ) → n < length xs → length (take n xs) ≡ n
+length-take_lt [] n h = absurd (omega arith)
+length-take_lt (x ∷ xs) zero h = refl
+length-take_lt (x ∷ xs) (suc n) h = ap suc (length-take_lt xs n (omega arith))
 
 -- the address that a symbol gives a name
 abbrev pub address_by : List ℕ → GlobalSymbol → Option ℕ
@@ -182,17 +184,18 @@ none_so : (o : Option ℕ) → is_some o ≡ true → o ≡ None → ⊥
 none_so o h e = not_both (is_some o) h (ap is_some e)
 
 -- the address of a symbol that is defined is found by its name
-pub own_found : (row : List GlobalSymbol) (numbers : Numbers) → AreEntered row (number_in numbers)
+pub address_at-defined : (row : List GlobalSymbol) (numbers : Numbers) → AreEntered row (number_in numbers)
     → (k : ℕ) (s : GlobalSymbol) → slice_get row k ≡ Some s → is_some s.address ≡ true
     → address_at row (number_in numbers (is_of row s.name) s.name) ≡ s.address
-own_found row numbers entered k s here defined =
+address_at-defined row numbers entered k s here defined =
     ap (address_at row) (number_of row (number_in numbers) entered k s here defined)
     ∙ ap (λ (o : Option GlobalSymbol). option_and_then (λ t. t.address) o) here
 
 -- what is found is the address that the first symbol gives
-pub found_is : (row : List GlobalSymbol) (numbers : Numbers) → AreEntered row (number_in numbers) → (name : List ℕ)
+pub address_at-first : (row : List GlobalSymbol) (numbers : Numbers) → AreEntered row (number_in numbers)
+    → (name : List ℕ)
     → address_at row (number_in numbers (is_of row name) name) ≡ first (address_by name) row
-found_is row numbers entered name =
+address_at-first row numbers entered name =
     let find = number_in numbers in
     let o = find (is_of row name) name in
     by_option (first (address_by name) row) (address_at row o ≡ first (address_by name) row)
@@ -208,7 +211,7 @@ found_is row numbers entered name =
     let t = first_there row name a e in
     let g = if_some (bytes_eq t.symbol.name name) t.symbol.address a t.gives in
     let named : t.symbol.name ≡ name = (bytes_eq-Decides t.symbol.name name).0 g.0 in
-    let own = own_found row numbers entered t.at t.symbol t.here (some_so t.symbol.address a g.1) in
+    let own = address_at-defined row numbers entered t.at t.symbol t.here (some_so t.symbol.address a g.1) in
     ap (λ (n : List ℕ). address_at row (find (is_of row n) n)) (sym named) ∙ (own ∙ (g.1 ∙ sym e)))
 
 -- a number is found exactly where an address is
@@ -226,12 +229,12 @@ number_in-address_at row numbers name =
     ap is_none e ∙ sym (ap (λ (p : Option ℕ). not (is_some (address_at row p))) e ∙ ap not there))
 
 -- a symbol that isn't defined stands behind the others
-pub enters_free : (row : List GlobalSymbol) (find : Finder) (e : GlobalSymbol) → is_some e.address ≡ false
+pub AreEntered-undefined : (row : List GlobalSymbol) (find : Finder) (e : GlobalSymbol) → is_some e.address ≡ false
     → AreEntered row find → AreEntered (row ++ e ∷ []) find
-enters_free row find e none entered = record {
+AreEntered-undefined row find e none entered = record {
   single = λ j k s t at_j at_k some_s some_t same.
-      elim (get_push row e j s at_j) [
-        | inl here ↦ elim (get_push row e k t at_k) [
+      elim (slice_get-snoc row e j s at_j) [
+        | inl here ↦ elim (slice_get-snoc row e k t at_k) [
           | inl there ↦ entered.single j k s t here there some_s some_t same
           | inr last ↦
               absurd (not_both (is_some t.address) some_t (ap (λ (x : GlobalSymbol). is_some x.address) last.1 ∙ none))
@@ -240,7 +243,7 @@ enters_free row find e none entered = record {
             absurd (not_both (is_some s.address) some_s (ap (λ (x : GlobalSymbol). is_some x.address) last.1 ∙ none))
       ];
   found = λ k s at_k some_s.
-      elim (get_push row e k s at_k) [
+      elim (slice_get-snoc row e k s at_k) [
         | inl here ↦ entered.found k s here some_s
         | inr last ↦
             absurd (not_both (is_some s.address) some_s (ap (λ (x : GlobalSymbol). is_some x.address) last.1 ∙ none))
@@ -255,26 +258,26 @@ AreEntered-not_found row find name entered none k s here defined same =
     (sym none ∙ (ap (λ (n : List ℕ). find (is_of row n) n) (sym same) ∙ number_of row find entered k s here defined))
 
 -- one that is defined and has got a number stands behind the others
-pub enters_named : (row : List GlobalSymbol) (old new : Finder) (e : GlobalSymbol) (number : ℕ)
+pub AreEntered-defined : (row : List GlobalSymbol) (old new : Finder) (e : GlobalSymbol) (number : ℕ)
     → number ≡ length row → old (is_of row e.name) e.name ≡ None → Grows old new e.name number → AreEntered row old
     → AreEntered (row ++ e ∷ []) new
-enters_named row old new e number size none grows entered = record {
+AreEntered-defined row old new e number size none grows entered = record {
   single = λ j k s t at_j at_k some_s some_t same.
-      elim (get_push row e j s at_j) [
-        | inl here ↦ elim (get_push row e k t at_k) [
+      elim (slice_get-snoc row e j s at_j) [
+        | inl here ↦ elim (slice_get-snoc row e k t at_k) [
           | inl there ↦ entered.single j k s t here there some_s some_t same
           | inr last ↦ absurd
               (AreEntered-not_found row old e.name entered none j s here some_s
               (same ∙ ap (λ (x : GlobalSymbol). x.name) last.1))
         ]
-        | inr last ↦ elim (get_push row e k t at_k) [
+        | inr last ↦ elim (slice_get-snoc row e k t at_k) [
           | inl there ↦ absurd (AreEntered-not_found row old e.name entered none k t there some_t
               (sym same ∙ ap (λ (x : GlobalSymbol). x.name) last.1))
           | inr also ↦ last.0 ∙ sym also.0
         ]
       ];
   found = λ k s at_k some_s is_right only.
-      elim (get_push row e k s at_k) [
+      elim (slice_get-snoc row e k s at_k) [
         | inl here ↦
             grows.0 is_right s.name k (λ same. AreEntered-not_found row old e.name entered none k s here some_s same)
             (entered.found k s here some_s is_right only)
@@ -286,40 +289,40 @@ enters_named row old new e number size none grows entered = record {
       ];
 }
 
-pub enters_still : (row : List GlobalSymbol) (old new : Finder) → Keeps old new → AreEntered row old
+pub AreEntered-Keeps : (row : List GlobalSymbol) (old new : Finder) → Keeps old new → AreEntered row old
     → AreEntered row new
-enters_still row old new keeps entered = record {
+AreEntered-Keeps row old new keeps entered = record {
   single = entered.single;
   found = λ k s here defined is_right only. keeps is_right s.name k (entered.found k s here defined is_right only);
 }
 
-pub enters_none : (find : Finder) → AreEntered [] find
-enters_none find = record {
+pub AreEntered-nil : (find : Finder) → AreEntered [] find
+AreEntered-nil find = record {
   single = λ j k s t here. absurd (none-some s here);
   found = λ k s here. absurd (none-some s here);
 }
 
-pub nothing_found : (o : Option ℕ) → address_at [] o ≡ None
-nothing_found None = refl
-nothing_found (Some k) = refl
+pub address_at-nil : (o : Option ℕ) → address_at [] o ≡ None
+address_at-nil None = refl
+address_at-nil (Some k) = refl
 
 -- one symbol more
-pub found_behind : (row : List GlobalSymbol) (e : GlobalSymbol) (old new : Numbers) → AreEntered row (number_in old)
+pub address_at-next : (row : List GlobalSymbol) (e : GlobalSymbol) (old new : Numbers) → AreEntered row (number_in old)
     → AreEntered (row ++ e ∷ []) (number_in new) → (name : List ℕ) →
     address_at (row ++ e ∷ []) (number_in new (is_of (row ++ e ∷ []) name) name)
     ≡ option_or (address_at row (number_in old (is_of row name) name)) (address_by name e)
-found_behind row e old new before behind name =
-    found_is (row ++ e ∷ []) new behind name
+address_at-next row e old new before behind name =
+    address_at-first (row ++ e ∷ []) new behind name
     ∙ (first_append (address_by name) row e
-    ∙ ap (λ (o : Option ℕ). option_or o (address_by name e)) (sym (found_is row old before name)))
+    ∙ ap (λ (o : Option ℕ). option_or o (address_by name e)) (sym (address_at-first row old before name)))
 
 -- the symbols of a module that stands behind others
-pub standings_behind : (ls : List Located) (n : ℕ)
+pub global_symbols-take_drop : (ls : List Located) (n : ℕ)
     → global_symbols ls ≡ global_symbols (take n ls) ++ global_symbols (drop n ls)
-standings_behind ls zero = refl
-standings_behind [] (suc n) = refl
-standings_behind (l ∷ ls) (suc n) =
-    ap (λ (r : List GlobalSymbol). global_symbols_in l ++ r) (standings_behind ls n)
+global_symbols-take_drop ls zero = refl
+global_symbols-take_drop [] (suc n) = refl
+global_symbols-take_drop (l ∷ ls) (suc n) =
+    ap (λ (r : List GlobalSymbol). global_symbols_in l ++ r) (global_symbols-take_drop ls n)
     ∙ sym (append_assoc (global_symbols_in l) (global_symbols (take n ls)) (global_symbols (drop n ls)))
 
 drop-used_symbols : {X : Type 0} (xs ys : List X) → drop (length xs) (xs ++ ys) ≡ ys
@@ -330,24 +333,24 @@ take-used_symbols : {X : Type 0} (xs ys : List X) → take (length xs) (xs ++ ys
 take-used_symbols [] ys = refl
 take-used_symbols (x ∷ xs) ys = ap (λ r. x ∷ r) (take-used_symbols xs ys)
 
-pub next_standings : (ls : List Located) (n count : ℕ) (l : Located)
+pub global_symbols-next_module : (ls : List Located) (n count : ℕ) (l : Located)
     → drop n ls ≡ l ∷ drop (n + 1) ls → count ≡ length (global_symbols (take n ls))
     → take (length l.parts.symbols) (drop count (global_symbols ls)) ≡ global_symbols_in l
-next_standings ls n count l e size =
+global_symbols-next_module ls n count l e size =
     let front = global_symbols (take n ls) in
     let rest = global_symbols (drop (n + 1) ls) in
     let behind : global_symbols (drop n ls) ≡ global_symbols_in l ++ rest = ap global_symbols e in
     let after : drop count (global_symbols ls) ≡ global_symbols_in l ++ rest =
     ap (λ (k : ℕ). drop k (global_symbols ls)) size
-    ∙ (ap (drop (length front)) (standings_behind ls n)
+    ∙ (ap (drop (length front)) (global_symbols-take_drop ls n)
     ∙ (drop-used_symbols front (global_symbols (drop n ls)) ∙ behind)) in
     ap (take (length l.parts.symbols)) after
     ∙ (ap (λ (k : ℕ). take k (global_symbols_in l ++ rest)) (sym (length-map l.parts.symbols (global_symbol_of l)))
     ∙ take-used_symbols (global_symbols_in l) rest)
 
-pub count_next : (ls : List Located) (n : ℕ) (l : Located) → take (n + 1) ls ≡ take n ls ++ l ∷ []
+pub length-global_symbols_next : (ls : List Located) (n : ℕ) (l : Located) → take (n + 1) ls ≡ take n ls ++ l ∷ []
     → length (global_symbols (take (n + 1) ls)) ≡ length (global_symbols (take n ls)) + length l.parts.symbols
-count_next ls n l e = ap (λ (x : List Located). length (global_symbols x)) e ∙ by (take n ls)
+length-global_symbols_next ls n l e = ap (λ (x : List Located). length (global_symbols x)) e ∙ by (take n ls)
   where
     by : (xs : List Located)
         → length (global_symbols (xs ++ l ∷ [])) ≡ length (global_symbols xs) + length l.parts.symbols
@@ -360,30 +363,32 @@ count_next ls n l e = ap (λ (x : List Located). length (global_symbols x)) e �
     )
 
 -- the first symbol of a module that gives a name an address
-pub first_in : (l : Located) (name : List ℕ) (ss : List Named)
+pub first-named_address : (l : Located) (name : List ℕ) (ss : List Named)
     → first (address_by name) (map (global_symbol_of l) ss) ≡ first (named_address l name) ss
-first_in l name [] = refl
-first_in l name (s ∷ ss) = ap (option_or (named_address l name s)) (first_in l name ss)
+first-named_address l name [] = refl
+first-named_address l name (s ∷ ss) = ap (option_or (named_address l name s)) (first-named_address l name ss)
 
 -- the next symbol of a row has been entered
-pub entered_named : (es : List GlobalSymbol) (n count : ℕ) (e : GlobalSymbol) (old new : Numbers) → count ≡ n + 1
+pub AreEntered-next_defined : (es : List GlobalSymbol) (n count : ℕ) (e : GlobalSymbol) (old new : Numbers)
+    → count ≡ n + 1
     → slice_get es n ≡ Some e →
     number_in old (is_of (take n es) e.name) e.name ≡ None → Grows (number_in old) (number_in new) e.name n
     → AreEntered (take n es) (number_in old) → AreEntered (take count es) (number_in new)
-entered_named es n count e old new more here none grows entered =
-    let size : n ≡ length (take n es) = sym (length-used_symbols es n (slice_get_within es n e here)) in
-    let longer : take count es ≡ take n es ++ e ∷ [] = ap (λ (k : ℕ). take k es) more ∙ take_next es n e here in
+AreEntered-next_defined es n count e old new more here none grows entered =
+    let size : n ≡ length (take n es) = sym (length-take_lt es n (slice_get_within es n e here)) in
+    let longer : take count es ≡ take n es ++ e ∷ [] = ap (λ (k : ℕ). take k es) more ∙ take-snoc_next es n e here in
     subst (λ (row : List GlobalSymbol). AreEntered row (number_in new)) (sym longer)
-    (enters_named (take n es) (number_in old) (number_in new) e n size none grows entered)
+    (AreEntered-defined (take n es) (number_in old) (number_in new) e n size none grows entered)
 
-pub entered_free : (es : List GlobalSymbol) (n count : ℕ) (e : GlobalSymbol) (numbers : Numbers) → count ≡ n + 1
+pub AreEntered-next_undefined : (es : List GlobalSymbol) (n count : ℕ) (e : GlobalSymbol) (numbers : Numbers)
+    → count ≡ n + 1
     → slice_get es n ≡ Some e →
     is_some e.address ≡ false → AreEntered (take n es) (number_in numbers)
     → AreEntered (take count es) (number_in numbers)
-entered_free es n count e numbers more here none entered =
-    let longer : take count es ≡ take n es ++ e ∷ [] = ap (λ (k : ℕ). take k es) more ∙ take_next es n e here in
+AreEntered-next_undefined es n count e numbers more here none entered =
+    let longer : take count es ≡ take n es ++ e ∷ [] = ap (λ (k : ℕ). take k es) more ∙ take-snoc_next es n e here in
     subst (λ (row : List GlobalSymbol). AreEntered row (number_in numbers)) (sym longer)
-    (enters_free (take n es) (number_in numbers) e none entered)
+    (AreEntered-undefined (take n es) (number_in numbers) e none entered)
 
 pub AreEntered-next : (es : List GlobalSymbol) (n count : ℕ) (e : GlobalSymbol) (old new : Numbers) → count ≡ n + 1
     → slice_get es n ≡ Some e →
@@ -391,9 +396,9 @@ pub AreEntered-next : (es : List GlobalSymbol) (n count : ℕ) (e : GlobalSymbol
     address_at (take count es) (number_in new (is_of (take count es) name) name)
     ≡ option_or (address_at (take n es) (number_in old (is_of (take n es) name) name)) (address_by name e)
 AreEntered-next es n count e old new more here before after name =
-    let longer : take count es ≡ take n es ++ e ∷ [] = ap (λ (k : ℕ). take k es) more ∙ take_next es n e here in
+    let longer : take count es ≡ take n es ++ e ∷ [] = ap (λ (k : ℕ). take k es) more ∙ take-snoc_next es n e here in
     ap (λ (row : List GlobalSymbol). address_at row (number_in new (is_of row name) name)) longer
-    ∙ found_behind (take n es) e old new before
+    ∙ address_at-next (take n es) e old new before
     (subst (λ (row : List GlobalSymbol). AreEntered row (number_in new)) longer after) name
 
 -- the symbol with a number, as a loop goes along the modules
@@ -415,15 +420,16 @@ length-global_symbols (l ∷ ls) = omega (
 )
 
 -- the symbol with a number, of the modules from one on whose symbols begin at that number or before it
-pub from_start : (ls : List Located) (i s n : ℕ) → s ≡ symbols_of (take i ls) → s ≤ n
+pub global_symbols-from_module : (ls : List Located) (i s n : ℕ) → s ≡ symbols_of (take i ls) → s ≤ n
     → slice_get (global_symbols (drop i ls)) (n - s) ≡ slice_get (global_symbols ls) n
-from_start ls i s n begins before =
+global_symbols-from_module ls i s n begins before =
     let size : s ≡ length (global_symbols (take i ls)) = begins ∙ sym (length-global_symbols (take i ls)) in
     let front = global_symbols (take i ls) in
     let back = global_symbols (drop i ls) in
     let far : length front ≤ n = subst (λ (k : ℕ). k ≤ n) size before in
     ap (λ (k : ℕ). slice_get back (n - k)) size
-    ∙ sym (ap (λ (row : List GlobalSymbol). slice_get row n) (standings_behind ls i) ∙ get_behind front back n far)
+    ∙ sym (ap (λ (row : List GlobalSymbol). slice_get row n) (global_symbols-take_drop ls i)
+    ∙ slice_get-append_right front back n far)
 
 pub next_symbols : (ls : List Located) (n : ℕ) (l : Located) → n < length ls → l ≡ get_or ls n l
     → symbols_of (take (n + 1) ls) ≡ symbols_of (take n ls) + length (global_symbols_in l)
@@ -432,7 +438,7 @@ next_symbols ls n l within here =
       arith,
       length-global_symbols (take (n + 1) ls),
       length-global_symbols (take n ls),
-      count_next ls n l (take-next_module ls n l within here),
+      length-global_symbols_next ls n l (take-next_module ls n l within here),
       length-map l.parts.symbols (global_symbol_of l),
     )
 
@@ -441,30 +447,32 @@ pub push_start : (ls : List Located) (starts : List ℕ) (i count : ℕ) → len
     → count ≡ symbols_of (take i ls)
     → ((k s : ℕ) → slice_get starts k ≡ Some s → s ≡ symbols_of (take k ls))
     → (k s : ℕ) → slice_get (starts ++ count ∷ []) k ≡ Some s → s ≡ symbols_of (take k ls)
-push_start ls starts i count size here before k s e = elim (get_push starts count k s e) [
+push_start ls starts i count size here before k s e = elim (slice_get-snoc starts count k s e) [
   | inl old ↦ before k s old
   | inr new ↦ new.1 ∙ (here ∙ ap (λ (m : ℕ). symbols_of (take m ls)) (sym size ∙ sym new.0))
 ]
 
-pub here_get : (ls : List Located) (i : ℕ) (l : Located) (rest count : ℕ) (whole : Option GlobalSymbol) → i < length ls
+pub global_symbols-get_here : (ls : List Located) (i : ℕ) (l : Located) (rest count : ℕ) (whole : Option GlobalSymbol)
+    → i < length ls
     → l ≡ get_or ls i l → count ≡ length (global_symbols_in l) → rest < count →
     slice_get (global_symbols (drop i ls)) rest ≡ whole → slice_get (global_symbols_in l) rest ≡ whole
-here_get ls i l rest count whole within here size inside e =
-    sym (get-used_symbols (global_symbols_in l) (global_symbols (drop (i + 1) ls)) rest (omega arith))
+global_symbols-get_here ls i l rest count whole within here size inside e =
+    sym (slice_get-append_left (global_symbols_in l) (global_symbols (drop (i + 1) ls)) rest (omega arith))
     ∙ (ap (λ (row : List GlobalSymbol). slice_get row rest) (sym (rest_from ls i l within here)) ∙ e)
 
-pub past_get : (ls : List Located) (i : ℕ) (l : Located) (rest count : ℕ) (whole : Option GlobalSymbol) → i < length ls
+pub global_symbols-get_past : (ls : List Located) (i : ℕ) (l : Located) (rest count : ℕ) (whole : Option GlobalSymbol)
+    → i < length ls
     → l ≡ get_or ls i l → count ≡ length (global_symbols_in l) → count ≤ rest →
     slice_get (global_symbols (drop i ls)) rest ≡ whole
     → slice_get (global_symbols (drop (i + 1) ls)) (rest - count) ≡ whole
-past_get ls i l rest count whole within here size past e =
+global_symbols-get_past ls i l rest count whole within here size past e =
     ap (λ (k : ℕ). slice_get (global_symbols (drop (i + 1) ls)) (rest - k)) size
-    ∙ (sym (get_behind (global_symbols_in l) (global_symbols (drop (i + 1) ls)) rest (omega arith))
+    ∙ (sym (slice_get-append_right (global_symbols_in l) (global_symbols (drop (i + 1) ls)) rest (omega arith))
     ∙ (ap (λ (row : List GlobalSymbol). slice_get row rest) (sym (rest_from ls i l within here)) ∙ e))
 
-pub end_get : (ls : List Located) (i rest : ℕ) (whole : Option GlobalSymbol) → length ls ≤ i
+pub global_symbols-get_end : (ls : List Located) (i rest : ℕ) (whole : Option GlobalSymbol) → length ls ≤ i
     → slice_get (global_symbols (drop i ls)) rest ≡ whole → whole ≡ None
-end_get ls i rest whole past e =
+global_symbols-get_end ls i rest whole past e =
     sym e ∙ ap (λ (x : List Located). slice_get (global_symbols x) rest) (drop-past_end ls i past)
 
 -- the symbol of a module with a number
@@ -473,10 +481,10 @@ pub global_symbol-at : (l : Located) (i : ℕ) (s : Named) → slice_get l.parts
 global_symbol-at l i s here =
     slice_get-map (global_symbol_of l) l.parts.symbols i ∙ ap (option_map (global_symbol_of l)) here
 
-pub symbol_there : (es : List GlobalSymbol) (l : Located) (c i : ℕ) (s : Named)
+pub global_symbols-get_of_module : (es : List GlobalSymbol) (l : Located) (c i : ℕ) (s : Named)
     → take (length l.parts.symbols) (drop c es) ≡ global_symbols_in l → slice_get l.parts.symbols i ≡ Some s
     → slice_get es (c + i) ≡ Some (global_symbol_of l s)
-symbol_there es l c i s part here =
-    at_place es (global_symbols_in l) c (length l.parts.symbols) i part
+global_symbols-get_of_module es l c i s part here =
+    slice_get-part es (global_symbols_in l) c (length l.parts.symbols) i part
     (slice_get_within (global_symbols_in l) i (global_symbol_of l s) (global_symbol-at l i s here))
     ∙ global_symbol-at l i s here

@@ -24,7 +24,7 @@ use Rattle.alpha_asm.specs.Unlinked.{IsAddress, takes, IsReached, IsCell, IsUnli
 use Rattle.alpha_asm.proofs.NextItem.{length-raw_bytes}
 use Rattle.alpha_asm.proofs.DataValues.{length-asm_low_bytes}
 use Rattle.alpha_link.specs.Relocations.{Body, is_taken_at, is_quad_at, body}
-use Rattle.alpha_link.proofs.SourceSizes.{insns_of, words_behind}
+use Rattle.alpha_link.proofs.SourceSizes.{insns_of, place_after-words}
 use Rattle.alpha_link.proofs.SourceRelocations.{IsFixChain}
 
 -- the code has the instruction where it stands
@@ -38,7 +38,8 @@ taken_so code insn field words known there h =
     let here = decoded_there (map encoded code) code words insn known there in
     rw (test, place, here) h
 
-slice_get-append_seam : {A : Type 0} (front rest : List A) (x : A) → slice_get (front ++ x ∷ rest) (length front) ≡ Some x
+slice_get-append_seam : {A : Type 0} (front rest : List A) (x : A)
+    → slice_get (front ++ x ∷ rest) (length front) ≡ Some x
 slice_get-append_seam [] rest x = refl
 slice_get-append_seam (y ∷ front) rest x = slice_get-append_seam front rest x
 
@@ -113,7 +114,7 @@ code_chain code bytes low p n at (i ∷ is) front known few whole size below (a,
     let x : Placed = record { place = p; line = n; item = i } in
     let next : ℕ = at + (data_size s + filled_pad p s) in
     let rest : List Placed = placed (place_after p s) (n + 1) is in
-    let words : (place_after p s).words ≡ p.words + length (raw_insns s) = words_behind p s in
+    let words : (place_after p s).words ≡ p.words + length (raw_insns s) = place_after-words p s in
     let more : (l : ℕ) → l ≤ 4 * (p.words + length (raw_insns s))
     → IsFixChain sides.Code (body (map encoded code) bytes) l (fixes next rest) = λ l h.
     code_chain code bytes l (place_after p s) (n + 1) next is (front ++ raw_insns s) known few
@@ -127,7 +128,8 @@ code_chain code bytes low p n at (i ∷ is) front known few whole size below (a,
 -- the other way round: fixes of instructions don't matter to the data
 skip_reach : (b : Body) (low line words : ℕ) (reach : Option (RelocField × Reference)) (fs : List Fix)
     → IsFixChain sides.Data b low fs
-    → IsFixChain sides.Data b low (map (fix 0) (list_of (option_map (λ r. name line r.1 (by_insn r.0 words)) reach)) ++ fs)
+    → IsFixChain sides.Data b low
+    (map (fix 0) (list_of (option_map (λ r. name line r.1 (by_insn r.0 words)) reach)) ++ fs)
 skip_reach b low line words None fs chain = chain
 skip_reach b low line words (Some (by, to)) fs chain = chain
 

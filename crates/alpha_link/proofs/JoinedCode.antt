@@ -154,9 +154,9 @@ holds_down whole part from p i Long s order within h =
     (omega (arith, h.0), within, λ e. h.2 ((s.columns i within).kind ∙ e))
 
 -- an accepted part has no trigger that breaks a place of the whole
-pub part_rejects : (whole part : List ℕ) (from : ℕ) → ShowsPartOf whole part from → IsAccepted part
+pub IsAccepted-part_unbroken : (whole part : List ℕ) (from : ℕ) → ShowsPartOf whole part from → IsAccepted part
     → (p at : ℕ) (c : Condition) → p < length part → IsBroken whole (from + p) at c → ⊥
-part_rejects whole part from s accepted p at c within h =
+IsAccepted-part_unbroken whole part from s accepted p at c within h =
     let i = at - from in
     let same : at ≡ from + i = omega (arith, h.order) in
     let order : p ≤ i = omega (arith, h.order) in
@@ -222,11 +222,13 @@ pub accepted_append : (a b : List ℕ) → IsAccepted a → IsAccepted b → IsA
 accepted_append a b first second t at c h =
     ⊎_elim
     (λ (front : t < length a). let same : t ≡ 0 + t = omega arith in
-    part_rejects (a ++ b) a 0 (shows_front a b) first t at c front (subst (λ (p : ℕ). IsBroken (a ++ b) p at c) same h))
+    IsAccepted-part_unbroken (a ++ b) a 0 (shows_front a b) first t at c front
+    (subst (λ (p : ℕ). IsBroken (a ++ b) p at c) same h))
     (λ (behind : length a ≤ t).
     let same : t ≡ length a + (t - length a) = omega arith in
     let below = kind_within (a ++ b) t kinds.Trigger h.trigger_kind in
-    part_rejects (a ++ b) b (length a) (shows_behind a b) second (t - length a) at c (omega (arith, length-append a b))
+    IsAccepted-part_unbroken (a ++ b) b (length a) (shows_behind a b) second (t - length a) at c
+    (omega (arith, length-append a b))
     (subst (λ (p : ℕ). IsBroken (a ++ b) p at c) same h))
     (cases_lt t (length a))
 
@@ -258,5 +260,5 @@ pub parts_accepted-alike : (a b : List ℕ) → AreAlike a b → IsAccepted a �
 parts_accepted-alike a b alike accepted t at c h =
     let same : t ≡ 0 + t = omega arith in
     let below = kind_within b t kinds.Trigger h.trigger_kind in
-    part_rejects b a 0 (shows_alike a b alike) accepted t at c (omega (arith, alike.size))
+    IsAccepted-part_unbroken b a 0 (shows_alike a b alike) accepted t at c (omega (arith, alike.size))
     (subst (λ (p : ℕ). IsBroken b p at c) same h)

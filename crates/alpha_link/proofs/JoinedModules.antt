@@ -20,9 +20,9 @@ use Rattle.alpha_link.specs.declared.output.Output.{Output}
 use Rattle.alpha_link.specs.Output.{code_with_all, bytes_with_all, AreAfterCode, JoinsOne, JoinsAll}
 use Rattle.alpha_link.proofs.LoopLists.{drop-get_or, drop-past_end, first-drop_none}
 use Rattle.alpha_link.proofs.NameAddresses.{take-next_module}
-use Rattle.alpha_link.proofs.LinkedCode.{known_insns, image_known}
+use Rattle.alpha_link.proofs.LinkedCode.{AreKnownWords-decoded, AreKnownWords-code_words}
 use Rattle.alpha_link.proofs.ShiftedRelocations.{bytes_shift, length-bytes_after}
-use Rattle.alpha_link.proofs.RelocationSites.{takes_all, length-code_after}
+use Rattle.alpha_link.proofs.RelocationSites.{code_with_all-append, length-code_after}
 
 -- the least symbol whose name isn't found
 abbrev pub missing_in : (List ℕ → Option ℕ) → Located → Option (ℕ × ℕ)
@@ -32,11 +32,11 @@ abbrev pub missing_by : (List ℕ → Option ℕ) → List Located → Option (�
 missing_by find ls = first (missing_in find) ls
 
 -- modules stand behind each other
-pub located_stand : (ms : List ModuleParts) (number words filled : ℕ)
+pub AreAfterCode-located : (ms : List ModuleParts) (number words filled : ℕ)
     → AreAfterCode words filled (located number words filled ms)
-located_stand [] number words filled = tt
-located_stand (m ∷ ms) number words filled =
-    (refl, (refl, located_stand ms (number + 1) (words + length m.words) (filled + room m)))
+AreAfterCode-located [] number words filled = tt
+AreAfterCode-located (m ∷ ms) number words filled =
+    (refl, (refl, AreAfterCode-located ms (number + 1) (words + length m.words) (filled + room m)))
 
 -- the data bytes so far with those of further modules
 abbrev pub data_behind : List Located → List ℕ → List Located → List ℕ
@@ -54,8 +54,8 @@ pub record Joined (all : List Located) (n : ℕ) (code : List Form) (bytes : Lis
   pub code_size : length code ≡ words_in (take n all)
   pub bytes_size : length bytes ≡ filled_in (take n all)
 
-pub joins_none : (all : List Located) → AreAfterCode 0 0 all → Joined all 0 [] []
-joins_none all stand = record {
+pub Joined-none : (all : List Located) → AreAfterCode 0 0 all → Joined all 0 [] []
+Joined-none all stand = record {
   filled = 0;
   patched = stand;
   below = omega arith;
@@ -148,9 +148,10 @@ Joined-next all n l old new within here met one so_far =
         ∙ e)))
 
 -- the next module stands behind what is joined
-pub stands_next : (all : List Located) (n : ℕ) (l : Located) (code : List Form) (bytes : List ℕ) → n < length all
+pub Joined-next_module_place : (all : List Located) (n : ℕ) (l : Located) (code : List Form) (bytes : List ℕ)
+    → n < length all
     → l ≡ get_or all n l → Joined all n code bytes → (l.words ≡ length code) × (length bytes ≤ l.filled)
-stands_next all n l code bytes within here so_far =
+Joined-next_module_place all n l code bytes within here so_far =
     let cut : drop n all ≡ l ∷ drop (n + 1) all =
     drop-get_or all n l within ∙ ap (λ (x : Located). x ∷ drop (n + 1) all) (sym here) in
     let stand : AreAfterCode (length code) so_far.filled (l ∷ drop (n + 1) all) =
@@ -158,9 +159,9 @@ stands_next all n l code bytes within here so_far =
     (stand.0, subst (λ (k : ℕ). length bytes ≤ k) (sym stand.1.0) so_far.below)
 
 -- behind the last module
-pub joins_all : (all : List Located) (n : ℕ) (output : Output) → length all ≤ n → n ≤ length all
+pub Joined-JoinsAll : (all : List Located) (n : ℕ) (output : Output) → length all ≤ n → n ≤ length all
     → Joined all n output.code.items output.bytes.items → JoinsAll all output
-joins_all all n output past within so_far =
+Joined-JoinsAll all n output past within so_far =
     let none : drop n all ≡ [] = drop-past_end all n past in
     let whole : take n all ≡ all = ap (λ (k : ℕ). take k all) (omega arith) ∙ take-length all in
     record {
@@ -184,7 +185,7 @@ pub joins_one : (addresses wanted : List (Option ℕ)) (l : Located) (old append
 joins_one addresses wanted l old appended new good same words filled code bytes long put_code put_bytes =
     let rs = l.parts.relocations in
     let own = filter_map decoded l.parts.words in
-    let known = known_insns l.parts.words (image_known One l.parts.words good.words) in
+    let known = AreKnownWords-decoded l.parts.words (AreKnownWords-code_words One l.parts.words good.words) in
     let blank : List ℕ = replicate (l.filled - length old.bytes.items) 0 in
     let start : l.filled ≡ length (old.bytes.items ++ blank) = omega (
       arith,
@@ -193,7 +194,8 @@ joins_one addresses wanted l old appended new good same words filled code bytes 
       filled,
     ) in
     let code_is : new.code.items ≡ old.code.items ++ code_after addresses l rs own =
-    put_code ∙ (ap (code_with_all addresses l rs) code ∙ takes_all addresses l (sizes_of l.parts) l.parts.words
+    put_code
+    ∙ (ap (code_with_all addresses l rs) code ∙ code_with_all-append addresses l (sizes_of l.parts) l.parts.words
     l.parts.bytes own old.code.items words known [] rs own good.relocations (λ k. refl)) in
     let one : JoinsOne addresses l old new = record {
       code = code_is;

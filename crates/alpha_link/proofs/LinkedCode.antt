@@ -166,11 +166,12 @@ known_one : (o : Option Form) (rest : List Form) → IsSome o → o ∷ map Some
 known_one None rest h = absurd cc
 known_one (Some i) rest h = refl
 
-pub known_insns : (words : List ℕ) → AreKnownWords words → map decoded words ≡ map Some (filter_map decoded words)
-known_insns [] all = refl
-known_insns (w ∷ words) all =
+pub AreKnownWords-decoded : (words : List ℕ) → AreKnownWords words
+    → map decoded words ≡ map Some (filter_map decoded words)
+AreKnownWords-decoded [] all = refl
+AreKnownWords-decoded (w ∷ words) all =
     ap (λ (os : List (Option Form)). decoded w ∷ os)
-    (known_insns words (All-tail (λ (v : ℕ). IsSome (decoded v)) w words all))
+    (AreKnownWords-decoded words (All-tail (λ (v : ℕ). IsSome (decoded v)) w words all))
     ∙ known_one (decoded w) (filter_map decoded words) (All-head (λ (v : ℕ). IsSome (decoded v)) w words all)
 
 -- the class at a place is that of the instruction there
@@ -245,11 +246,11 @@ some_there level w h = some_of (decoded w) _ ((level_in-decoded level w).0 h.1)
     some_of None P h = absurd h
     some_of (Some i) P h = refl
 
-pub image_known : (level : Level) (words : List ℕ) → All (IsCodeWord level) words → AreKnownWords words
-image_known level [] all = All-nil (λ (w : ℕ). IsSome (decoded w))
-image_known level (w ∷ words) all =
+pub AreKnownWords-code_words : (level : Level) (words : List ℕ) → All (IsCodeWord level) words → AreKnownWords words
+AreKnownWords-code_words level [] all = All-nil (λ (w : ℕ). IsSome (decoded w))
+AreKnownWords-code_words level (w ∷ words) all =
     All-cons (λ (v : ℕ). IsSome (decoded v)) w words (some_there level w (All-head (IsCodeWord level) w words all))
-    (image_known level words (All-tail (IsCodeWord level) w words all))
+    (AreKnownWords-code_words level words (All-tail (IsCodeWord level) w words all))
 
 pub unless_ok : (o : Option LinkFault) (r : Result Program LinkFault) (p : Program) → unless_refused o r ≡ Ok p
     → r ≡ Ok p
@@ -280,9 +281,10 @@ linked_accepted ms entry image good e all =
     let code : flat_map (code_of ls) ls ≡ filter_map decoded image.words =
     linked_code ls (entry_of ls entry) (program_of image) b in
     let before : map decoded (all_words ms) ≡ map Some (raw_code ls) =
-    known_insns (all_words ms) (all_known ms all) ∙ ap (map Some) (insns_of_all ms 0 0 0) in
+    AreKnownWords-decoded (all_words ms) (all_known ms all) ∙ ap (map Some) (insns_of_all ms 0 0 0) in
     let after : map decoded image.words ≡ map Some (flat_map (code_of ls) ls) =
-    known_insns image.words (image_known image.level image.words good.words) ∙ ap (map Some) (sym code) in
+    AreKnownWords-decoded image.words (AreKnownWords-code_words image.level image.words good.words)
+    ∙ ap (map Some) (sym code) in
     parts_accepted-alike (all_words ms) image.words
     (words_alike (all_words ms) image.words (raw_code ls) (flat_map (code_of ls) ls) before after (raw_alike ls ls))
     (accepted_concat (map (λ m. m.words) ms) (all_accepted ms all))

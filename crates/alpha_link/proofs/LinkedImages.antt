@@ -25,10 +25,10 @@ use Rattle.alpha_image.specs.Insns.{IsCodeInsn}
 use Rattle.alpha_image.specs.Rules.{FieldsFit}
 use Rattle.alpha_image.specs.FieldTests.{least_bad_field}
 use Rattle.alpha_image.specs.declared.version.Version.TheVariants.{One}
-use Rattle.alpha_image.proofs.CodeInsns.{code_words_of_insns}
+use Rattle.alpha_image.proofs.CodeInsns.{IsCodeWord-map_encoded}
 use Rattle.alpha_image.proofs.FieldRules.{FieldsFit-least}
 use Rattle.alpha_asm.specs.Program.{Program, program_of, program_with}
-use Rattle.alpha_asm.proofs.FinishedProgram.{insns_of_words}
+use Rattle.alpha_asm.proofs.FinishedProgram.{filter_map-decoded}
 use Rattle.alpha_asm.specs.declared.statement.RelocField.{RelocField}
 use Rattle.alpha_asm.specs.declared.patch.Displacement.{Displacement}
 use Rattle.alpha_asm.specs.Layout.{padding}
@@ -42,17 +42,18 @@ use Rattle.alpha_link.specs.declared.relocation.Relocation.{Relocation}
 use Rattle.alpha_link.specs.Parts.{ModuleParts, IsModule}
 use Rattle.alpha_link.specs.declared.output.Output.{Output}
 use Rattle.alpha_link.specs.Output.{AreAfterCode, JoinsOne}
-use Rattle.alpha_link.proofs.LinkedCode.{known_insns, image_known, unless_ok, links_to}
+use Rattle.alpha_link.proofs.LinkedCode.{AreKnownWords-decoded, AreKnownWords-code_words, unless_ok, links_to}
 use Rattle.alpha_link.proofs.ShiftedRelocations.{length-bytes_after}
 use Rattle.alpha_link.proofs.RelocationSites.{length-code_after}
 use Rattle.alpha_link.specs.declared.fault.LinkFault.{LinkFault}
 use Rattle.alpha_link.specs.declared.fault.LinkFault.TheVariants.{Duplicate, Undefined, ImageField, Reach}
 use Rattle.alpha_link.specs.Linked.{Located, located, places, size, room, last_of, words_in, filled_in, addresses_of}
-use Rattle.alpha_link.specs.Linked.{use_of, target, displacement, quadword, insn_with, code_at, code_after, bytes_after}
+use Rattle.alpha_link.specs.Linked.{use_of, relocation_target, displacement, quadword, insn_with, code_at, code_after}
+use Rattle.alpha_link.specs.Linked.{bytes_after}
 use Rattle.alpha_link.specs.Linked.{code_of, bytes_of, data_in, numbers_with, repeated, first_unresolved, out_of_range}
 use Rattle.alpha_link.specs.Linked.{entry_of}
 use Rattle.alpha_link.specs.Linked.{unless_refused, linked_at, linked}
-use Rattle.alpha_link.proofs.JoinedModules.{located_stand}
+use Rattle.alpha_link.proofs.JoinedModules.{AreAfterCode-located}
 
 -- ---- instructions of level 1
 
@@ -77,7 +78,7 @@ pub record Reaches (d : Displacement) : Type 0 where
 
 displacement_reaches : (addresses : List (Option ℕ)) (l : Located) (r : Relocation) (d : Displacement)
     → displacement addresses l r ≡ Some d → Reaches d
-displacement_reaches addresses l r d e = go (use_of r.kind) (target addresses r) e
+displacement_reaches addresses l r d e = go (use_of r.kind) (relocation_target addresses r) e
   where
     go : (u : Option RelocField) (a : Option ℤ)
         → option_and_then (λ by. option_and_then (reached by (0x10000 + 4 * l.words + r.offset)) a) u ≡ Some d
@@ -140,9 +141,9 @@ words_allowed (w ∷ words) all = go (decoded w) refl (words_allowed words (All-
         (word_allowed w i (All-head (IsCodeWord levels.One) w words all) e) later
 
 -- those of a module that is joined
-pub joined_allowed : (addresses : List (Option ℕ)) (l : Located) (old new : Output) → IsModule l.parts
+pub IsAllowed-joined : (addresses : List (Option ℕ)) (l : Located) (old new : Output) → IsModule l.parts
     → JoinsOne addresses l old new → All IsAllowed old.code.items → All IsAllowed new.code.items
-joined_allowed addresses l old new good one all =
+IsAllowed-joined addresses l old new good one all =
     let own = filter_map decoded l.parts.words in
     let rs = l.parts.relocations in
     subst (All IsAllowed) (sym one.code)
@@ -214,7 +215,8 @@ last_more l next rest =
 known_size : (words : List ℕ) → All (IsCodeWord levels.One) words → length (filter_map decoded words) ≡ length words
 known_size words all =
     sym (length-map (filter_map decoded words) Some)
-    ∙ (ap length (sym (known_insns words (image_known levels.One words all))) ∙ length-map words decoded)
+    ∙ (ap length (sym (AreKnownWords-decoded words (AreKnownWords-code_words levels.One words all)))
+    ∙ length-map words decoded)
 
 own_size : (all : List Located) (l : Located) → IsGoodLocated l → length (code_of all l) ≡ length l.parts.words
 own_size all l good =
@@ -280,8 +282,9 @@ good_places (m ∷ ms) number words filled good =
     (good_places ms (number + 1) (words + length m.words) (filled + room m) (All-tail IsModule m ms good))
 
 -- each instruction of the modules may stand in an image of the first level, and with them all addresses put in
-pub all_allowed : (ms : List ModuleParts) → All IsModule ms → All IsAllowed (flat_map (code_of (places ms)) (places ms))
-all_allowed ms good = code_allowed (places ms) (places ms) (good_places ms 0 0 0 good)
+pub IsAllowed-code_of : (ms : List ModuleParts) → All IsModule ms
+    → All IsAllowed (flat_map (code_of (places ms)) (places ms))
+IsAllowed-code_of ms good = code_allowed (places ms) (places ms) (good_places ms 0 0 0 good)
 
 -- the image with an entry
 good_image : (ms : List ModuleParts) (entry : ℕ) → All IsModule ms
@@ -290,10 +293,10 @@ good_image : (ms : List ModuleParts) (entry : ℕ) → All IsModule ms
     (flat_map (code_of (places ms)) (places ms)) (data_in (places ms) (places ms)))
 good_image ms entry good fine =
     let ls = places ms in
-    let stand = located_stand ms 0 0 0 in
+    let stand = AreAfterCode-located ms 0 0 0 in
     let goods = good_places ms 0 0 0 good in
     let code = flat_map (code_of ls) ls in
-    let words = code_words_of_insns levels.One code (all_allowed ms good) in
+    let words = IsCodeWord-map_encoded levels.One code (IsAllowed-code_of ms good) in
     let size : length (map encoded code) ≡ words_in ls = length-map code encoded ∙ words_all ls stand goods in
     let fit : FieldsFit (numbers_with ls entry) = FieldsFit-least (numbers_with ls entry) fine in
     let image : Parts = parts_with One (numbers_with ls entry) (map encoded code) (data_in ls ls) in
@@ -307,7 +310,7 @@ good_image ms entry good fine =
       image,
       is,
       ap (λ (l : List Form). program_with One (numbers_with ls entry) l (data_in ls ls))
-          (insns_of_words (map encoded code) code words.1),
+          (filter_map-decoded (map encoded code) code words.1),
     )
 
 unless_none : (o : Option LinkFault) (r : Result Program LinkFault) (p : Program) → unless_refused o r ≡ Ok p → o ≡ None

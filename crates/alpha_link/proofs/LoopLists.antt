@@ -39,8 +39,9 @@ pub first-drop_end : {A B : Type 0} (f : A → Option B) (xs : List A) (i : ℕ)
 first-drop_end f xs i whole past e = sym e ∙ ap (first f) (drop-past_end xs i past)
 
 -- the element with a number, and those behind it
-pub next_get : {A : Type 0} (xs : List A) (i : ℕ) (x : A) → slice_get xs i ≡ Some x → drop i xs ≡ x ∷ drop (i + 1) xs
-next_get xs i x e =
+pub drop-slice_get : {A : Type 0} (xs : List A) (i : ℕ) (x : A) → slice_get xs i ≡ Some x
+    → drop i xs ≡ x ∷ drop (i + 1) xs
+drop-slice_get xs i x e =
     drop-get_or xs i x (slice_get_within xs i x e)
     ∙ ap (λ (y : _). y ∷ drop (i + 1) xs) (get_or_from_slice_get xs i x x e)
 
@@ -55,14 +56,14 @@ pub position_stops : {A : Type 0} (p : A → Bool) (xs : List A) (i : ℕ) (x : 
     → slice_get xs i ≡ Some x → p x ≡ true → position_from p i (drop i xs) ≡ whole → Some i ≡ whole
 position_stops p xs i x whole here passes e =
     sym (ap (λ (b : Bool). cond b (Some i) (position_from p (i + 1) (drop (i + 1) xs))) passes)
-    ∙ (ap (position_from p i) (sym (next_get xs i x here)) ∙ e)
+    ∙ (ap (position_from p i) (sym (drop-slice_get xs i x here)) ∙ e)
 
 pub position_goes : {A : Type 0} (p : A → Bool) (xs : List A) (i : ℕ) (x : A) (whole : Option ℕ)
     → slice_get xs i ≡ Some x → p x ≡ false → position_from p i (drop i xs) ≡ whole
     → position_from p (i + 1) (drop (i + 1) xs) ≡ whole
 position_goes p xs i x whole here fails e =
     sym (ap (λ (b : Bool). cond b (Some i) (position_from p (i + 1) (drop (i + 1) xs))) fails)
-    ∙ (ap (position_from p i) (sym (next_get xs i x here)) ∙ e)
+    ∙ (ap (position_from p i) (sym (drop-slice_get xs i x here)) ∙ e)
 
 pub position_ends : {A : Type 0} (p : A → Bool) (xs : List A) (i : ℕ) (whole : Option ℕ) → length xs ≤ i
     → position_from p i (drop i xs) ≡ whole → None ≡ whole
@@ -71,18 +72,20 @@ position_ends p xs i whole past e = sym (ap (position_from p i) (drop-past_end x
 -- whether all elements pass a test, as a loop goes along their numbers
 whole_at : {A : Type 0} (p : A → Bool) (xs : List A) (i : ℕ) (x : A) (whole : Bool) → slice_get xs i ≡ Some x
     → list_all p (drop i xs) ≡ whole → (p x && list_all p (drop (i + 1) xs)) ≡ whole
-whole_at p xs i x whole here e = ap (list_all p) (sym (next_get xs i x here)) ∙ e
+whole_at p xs i x whole here e = ap (list_all p) (sym (drop-slice_get xs i x here)) ∙ e
 
-pub all_stops : {A : Type 0} (p : A → Bool) (xs : List A) (i : ℕ) (x : A) (whole : Bool) → slice_get xs i ≡ Some x
+pub list_all-drop_false : {A : Type 0} (p : A → Bool) (xs : List A) (i : ℕ) (x : A) (whole : Bool)
+    → slice_get xs i ≡ Some x
     → p x ≡ false → list_all p (drop i xs) ≡ whole → false ≡ whole
-all_stops p xs i x whole here fails e =
+list_all-drop_false p xs i x whole here fails e =
     sym (ap (λ (b : Bool). b && list_all p (drop (i + 1) xs)) fails) ∙ whole_at p xs i x whole here e
 
-pub all_goes : {A : Type 0} (p : A → Bool) (xs : List A) (i : ℕ) (x : A) (whole : Bool) → slice_get xs i ≡ Some x
+pub list_all-drop_next : {A : Type 0} (p : A → Bool) (xs : List A) (i : ℕ) (x : A) (whole : Bool)
+    → slice_get xs i ≡ Some x
     → p x ≡ true → list_all p (drop i xs) ≡ whole → list_all p (drop (i + 1) xs) ≡ whole
-all_goes p xs i x whole here passes e =
+list_all-drop_next p xs i x whole here passes e =
     sym (ap (λ (b : Bool). b && list_all p (drop (i + 1) xs)) passes) ∙ whole_at p xs i x whole here e
 
-pub all_ends : {A : Type 0} (p : A → Bool) (xs : List A) (i : ℕ) (whole : Bool) → length xs ≤ i
+pub list_all-drop_end : {A : Type 0} (p : A → Bool) (xs : List A) (i : ℕ) (whole : Bool) → length xs ≤ i
     → list_all p (drop i xs) ≡ whole → true ≡ whole
-all_ends p xs i whole past e = sym (ap (list_all p) (drop-past_end xs i past)) ∙ e
+list_all-drop_end p xs i whole past e = sym (ap (list_all p) (drop-past_end xs i past)) ∙ e

@@ -52,11 +52,11 @@ repeated-rest find ls n l whole within here found e =
     ∙ (ap (λ (x : Located). repeated (take n ls) (x ∷ drop (n + 1) ls)) here
     ∙ (ap (repeated (take n ls)) (sym (drop-get_or ls n l within)) ∙ e))
 
-pub none_again : (find : List ℕ → Option ℕ) (ls : List Located) (n : ℕ) (l : Located) (whole : Option (ℕ × ℕ))
+pub repeated-next : (find : List ℕ → Option ℕ) (ls : List Located) (n : ℕ) (l : Located) (whole : Option (ℕ × ℕ))
     → n < length ls → l ≡ get_or ls n l → ((name : List ℕ) → find name ≡ address_of (take n ls) name)
     → again_in find l ≡ None → repeated (take n ls) (drop n ls) ≡ whole
     → repeated (take (n + 1) ls) (drop (n + 1) ls) ≡ whole
-none_again find ls n l whole within here found none e =
+repeated-next find ls n l whole within here found none e =
     ap (λ (xs : List Located). repeated xs (drop (n + 1) ls)) (take-next_module ls n l within here)
     ∙ (ap
     (λ (o : Option ℕ). option_or (option_map (λ k. (l.number, k)) o) (repeated (take n ls ++ l ∷ []) (drop (n + 1) ls)))
@@ -73,12 +73,12 @@ some_again find ls n l k whole within here found some e =
     some
 
 -- a refusal of the module that a loop has come to
-pub refused_again : (find : List ℕ → Option ℕ) (ls : List Located)
+pub repeated-found : (find : List ℕ → Option ℕ) (ls : List Located)
     (n : ℕ) (l : Located) (fault : LinkFault) (whole : Option (ℕ × ℕ))
     → n < length ls → l ≡ get_or ls n l → ((name : List ℕ) → find name ≡ address_of (take n ls) name)
     → option_map (Duplicate l.number) (again_in find l) ≡ Some fault → repeated (take n ls) (drop n ls) ≡ whole
     → option_map (λ p. Duplicate p.0 p.1) whole ≡ Some fault
-refused_again find ls n l fault whole within here found refused e = by (again_in find l) refl refused
+repeated-found find ls n l fault whole within here found refused e = by (again_in find l) refl refused
   where
     by : (o : Option ℕ) → again_in find l ≡ o → option_map (Duplicate l.number) o ≡ Some fault
         → option_map (λ p. Duplicate p.0 p.1) whole ≡ Some fault

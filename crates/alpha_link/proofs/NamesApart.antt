@@ -20,7 +20,7 @@ use Rattle.alpha_link.specs.Parts.{AreGood}
 use Rattle.alpha_link.specs.declared.symbol.SymbolSection.{SymbolSection}
 use Rattle.alpha_link.specs.declared.symbol.SymbolSection.TheVariants as sections
 use Rattle.alpha_link.specs.Linked.{Located, section_address, named_address, is_defined}
-use Rattle.alpha_link.proofs.AreEntered.{get_push, get_behind}
+use Rattle.alpha_link.proofs.AreEntered.{slice_get-snoc, slice_get-append_right}
 use Rattle.alpha_link.proofs.LoopLists.{take_get}
 use Rattle.alpha_link.proofs.NameAddresses.{option_or-associates, first_append}
 use Rattle.alpha_link.proofs.SortedNames.{Less-not_equal}
@@ -40,7 +40,8 @@ is_lt-Less Less e = refl
 is_lt-Less Equal e = absurd cc
 is_lt-Less Greater e = absurd cc
 
-below_next : (before : List Named) (name : List ℕ) → LastIsHighest before → comes_behind before name ≡ true → AreBelow before name
+below_next : (before : List Named) (name : List ℕ) → LastIsHighest before → comes_behind before name ≡ true
+    → AreBelow before name
 below_next before name rises behind k t here =
     let n = length before - 1 in
     let some = slice_get_within before k t here in
@@ -60,13 +61,13 @@ last_is before s last e =
     let n : length (before ++ s ∷ []) - 1 ≡ length before = omega (arith, length-append before (s ∷ [])) in
     let none : length before - length before ≡ 0 = omega arith in
     let at : slice_get (before ++ s ∷ []) (length before) ≡ Some s =
-    get_behind before (s ∷ []) (length before) (omega arith) ∙ ap (slice_get (s ∷ [])) none in
+    slice_get-append_right before (s ∷ []) (length before) (omega arith) ∙ ap (slice_get (s ∷ [])) none in
     same_Some last s (sym e ∙ (ap (slice_get (before ++ s ∷ [])) n ∙ at))
 
 rises_next : (before : List Named) (s : Named) → AreBelow before s.name → LastIsHighest (before ++ s ∷ [])
 rises_next before s below k t last here at =
     let end : last ≡ s = last_is before s last at in
-    elim (get_push before s k t here) [
+    elim (slice_get-snoc before s k t here) [
       | inl there ↦ inr (ap (λ (l : Named). slice_cmp nat_cmp t.name l.name) end ∙ below k t there)
       | inr same ↦ inl (same.1 ∙ sym end)
     ]
@@ -82,7 +83,8 @@ behind_so z before s fits =
     (and_parts (nat_le (length s.name) 1024) (label && (offset && behind)) fits).1).1).1
 
 -- the names before that of a symbol are below it
-AreBelow-earlier_names : (z : Sizes) (before xs : List Named) → AreGood (IsSymbol z) before xs → LastIsHighest before → (i : ℕ) (s : Named)
+AreBelow-earlier_names : (z : Sizes) (before xs : List Named) → AreGood (IsSymbol z) before xs → LastIsHighest before
+    → (i : ℕ) (s : Named)
     → slice_get xs i ≡ Some s → AreBelow (before ++ take i xs) s.name
 AreBelow-earlier_names z before [] good rises i s here = absurd (none-some s here)
 AreBelow-earlier_names z before (x ∷ xs) good rises zero s here = λ k t there.

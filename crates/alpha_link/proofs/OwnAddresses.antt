@@ -18,7 +18,7 @@ use Rattle.alpha_link.specs.GlobalSymbols.{GlobalSymbol, global_symbol_of, globa
 use Rattle.alpha_link.specs.GlobalSymbols.{address_at}
 use Rattle.alpha_link.specs.GlobalSymbols.{AreEntered}
 use Rattle.alpha_link.specs.Addresses.{owned, address_by_own, Knows, AllKnow}
-use Rattle.alpha_link.proofs.AreEntered.{get-used_symbols, get_behind, own_found}
+use Rattle.alpha_link.proofs.AreEntered.{slice_get-append_left, slice_get-append_right, address_at-defined}
 
 -- functions that agree on each element of a list
 map_same : {A B : Type 0} (f g : A → B) (xs : List A) → ((k : ℕ) (x : A) → slice_get xs k ≡ Some x → f x ≡ g x)
@@ -50,10 +50,10 @@ all_at p (y ∷ xs) zero x all here = let same : y ≡ x = cc in ap p (sym same)
 all_at p (y ∷ xs) (suc k) x all here = all_at p xs k x (and_parts (p y) (list_all p xs) all).1 here
 
 -- a module that defines all its symbols
-pub all_own : (find : List ℕ → Option ℕ) (l : Located) → Knows find l
+pub owned-all_defined : (find : List ℕ → Option ℕ) (l : Located) → Knows find l
     → list_all (λ s. is_defined s.section) l.parts.symbols ≡ true
     → owned l ≡ addresses_by find l
-all_own find l knows all =
+owned-all_defined find l knows all =
     map_same (λ (s : Named). section_address l s.section s.offset) (λ (s : Named). find s.name) l.parts.symbols
     (λ k s here. by k s here s.section refl (all_at (λ (t : Named). is_defined t.section) l.parts.symbols k s all here))
   where
@@ -82,7 +82,7 @@ in_row (x ∷ ls) zero j l s here there =
     let first : slice_get (global_symbols_in x) j ≡ Some (global_symbol_of l s) =
     ap (λ (y : Located). slice_get (global_symbols_in y) j) same ∙ at in (
       j,
-      get-used_symbols (global_symbols_in x) (global_symbols ls) j
+      slice_get-append_left (global_symbols_in x) (global_symbols ls) j
           (slice_get_within (global_symbols_in x) j (global_symbol_of l s) first)
           ∙ first,
     )
@@ -91,7 +91,7 @@ in_row (x ∷ ls) (suc k) j l s here there =
     let size = length (global_symbols_in x) in
     let rest : size + i - size ≡ i = omega arith in (
       size + i,
-      get_behind (global_symbols_in x) (global_symbols ls) (size + i) (omega arith)
+      slice_get-append_right (global_symbols_in x) (global_symbols ls) (size + i) (omega arith)
           ∙ (ap (slice_get (global_symbols ls)) rest ∙ at),
     )
 
@@ -100,14 +100,14 @@ pub all_know : (row : List GlobalSymbol) (numbers : Numbers) (ls : List Located)
     → AreEntered row (number_in numbers) → AllKnow (λ name. address_at row (number_in numbers (is_of row name) name)) ls
 all_know row numbers ls whole entered k l here j s a there defined =
     let (i, at) = in_row ls k j l s here there in
-    own_found row numbers entered i (global_symbol_of l s)
+    address_at-defined row numbers entered i (global_symbol_of l s)
     (ap (λ (r : List GlobalSymbol). slice_get r i) whole ∙ at) (ap is_some defined)
     ∙ defined
 
 -- the row behind the last module
-pub whole_row : (ls those : List Located) (n count : ℕ) → length ls ≤ n → those ≡ ls
+pub global_symbols-whole_row : (ls those : List Located) (n count : ℕ) → length ls ≤ n → those ≡ ls
     → count ≡ length (global_symbols (take n ls)) → take count (global_symbols those) ≡ global_symbols ls
-whole_row ls those n count past same size =
+global_symbols-whole_row ls those n count past same size =
     ap (λ (x : List Located). take count (global_symbols x)) same
     ∙ take_all count (global_symbols ls)
     (subst (λ (k : ℕ). length (global_symbols ls) ≤ k)
@@ -119,8 +119,8 @@ pub knows_item : (find : List ℕ → Option ℕ) (ls : List Located) (i : ℕ) 
 knows_item find ls i l all within here = all i l (slice_get-get_or ls i l within ∙ ap Some (sym here))
 
 -- the address at which a module defines the symbol with a number
-pub owned_at : (l : Located) (i : ℕ) (s : Named) → slice_get l.parts.symbols i ≡ Some s →
+pub owned-section_address : (l : Located) (i : ℕ) (s : Named) → slice_get l.parts.symbols i ≡ Some s →
     option_and_then (λ a. a) (slice_get (owned l) i) ≡ section_address l s.section s.offset
-owned_at l i s here =
+owned-section_address l i s here =
     let at = λ (t : Named). section_address l t.section t.offset in
     ap (option_and_then (λ a. a)) (slice_get-map at l.parts.symbols i ∙ ap (option_map at) here)

@@ -29,9 +29,10 @@ use Rattle.alpha_link.specs.Symbols.{Named}
 use Rattle.alpha_link.specs.SortedNames.{Rise}
 use Rattle.alpha_link.specs.Made.{symbol_at_location, number_in, kind_in, offset_in, relocation_with, relocation_for}
 use Rattle.alpha_link.specs.Numbered.{texts, relocation_at, relocations_at, ranked, HasRank, ByNumbers}
-use Rattle.alpha_link.proofs.IsNumbered.{front_stays, texts_more}
-use Rattle.alpha_link.proofs.DistinctNames.{distinct_names, last_left, pushed_left, kept_left}
-use Rattle.alpha_link.proofs.SortedNames.{number_is}
+use Rattle.alpha_link.proofs.IsNumbered.{slice_get-append_some, texts_more}
+use Rattle.alpha_link.proofs.DistinctNames.{distinct_names, last_left, distinct_names-push_other}
+use Rattle.alpha_link.proofs.DistinctNames.{distinct_names-push_same}
+use Rattle.alpha_link.proofs.SortedNames.{number_in-rank}
 
 abbrev BorrowedName : Type 0
 BorrowedName = Bor (List ℕ)
@@ -73,7 +74,7 @@ pub grown_new : (spot : List ℕ → Option LabelLocation) (ns : List BorrowedNa
     → last ≡ last_left ns → IfSome last (λ b. true ≡ not (bytes_eq x.now b.now)) → rank ≡ length symbols
     → RanksGrown spot ns x (symbols ++ symbol_at_location x.now (spot x.now) ∷ []) (Some x) rank
 grown_new spot ns last x symbols rank made left new count =
-    let (more, after) = pushed_left ns last x left new in
+    let (more, after) = distinct_names-push_other ns last x left new in
     let place : rank ≡ length (texts (distinct_names ns)) =
     count ∙ (ap length made
     ∙ (length-map (distinct_names ns) (named_symbol spot)
@@ -102,7 +103,7 @@ pub grown_old : (spot : List ℕ → Option LabelLocation) (ns : List BorrowedNa
     → RanksGrown spot ns x symbols last rank
 grown_old spot ns None x symbols rank made left none old stands = cc
 grown_old spot ns (Some b) x symbols rank made left none old stands =
-    let (more, after) = kept_left ns (Some b) x left none old in
+    let (more, after) = distinct_names-push_same ns (Some b) x left none old in
     let equal : bytes_eq x.now b.now ≡ true = once_more (bytes_eq x.now b.now) old in
     let one : x.now ≡ b.now = (bytes_eq-Decides x.now b.now).0 equal in
     let there : slice_get (texts (distinct_names (ns ++ x ∷ []))) rank ≡ Some b.now =
@@ -141,7 +142,7 @@ module _ (names : List (List ℕ)) (ranks : List ℕ) (rank : ℕ) (x : KeyedNam
         r,
         set_elsewhere ranks x.number k.number rank other ∙ at,
         ap (λ ns. slice_get ns r) (texts_more before more)
-            ∙ front_stays (texts before) (texts more) r k.name.now stands,
+            ∙ slice_get-append_some (texts before) (texts more) r k.name.now stands,
       )
 
 pub ranks_more : (names : List (List ℕ)) (ks : List KeyedName) (i : ℕ)
@@ -176,7 +177,7 @@ number_of_rank ns rank name rise at =
         let none : BorrowedName = record { ref_ptr = (0, 0); now = [] } in
         let there : get_or ns rank none ≡ n = get_or_from_slice_get ns rank n none e in
         let tied : slice_cmp nat_cmp n.now n.now ≡ Equal = tied_itself nat_list_cmp_total n.now in
-        let found : number_in (texts ns) n.now ≡ Some rank = number_is ns n none rank rise
+        let found : number_in (texts ns) n.now ≡ Some rank = number_in-rank ns n none rank rise
         (slice_get_within ns rank n e) (ap (λ (m : BorrowedName). slice_cmp nat_cmp m.now n.now) there ∙ tied) in
         rw (← same) found
 

@@ -15,11 +15,11 @@ pub gave-injective : {X : Type 0} (x y : X) → read_ok x ≡ Ok y → x ≡ y
 gave-injective x y e = cc
 
 -- both parts of a pair
-pub pair_is : {X Y : Type 0} (p q : X × Y) → p ≡ q → (p.0 ≡ q.0) × (p.1 ≡ q.1)
-pair_is {X} {Y} p q e = (ap (λ (r : X × Y). r.0) e, ap (λ (r : X × Y). r.1) e)
+pub pair-injective : {X Y : Type 0} (p q : X × Y) → p ≡ q → (p.0 ≡ q.0) × (p.1 ≡ q.1)
+pair-injective {X} {Y} p q e = (ap (λ (r : X × Y). r.0) e, ap (λ (r : X × Y). r.1) e)
 
 pub ok_pair : {X Y : Type 0} (a c : X) (b d : Y) → read_ok {X = X × Y} (a, b) ≡ Ok (c, d) → (a ≡ c) × (b ≡ d)
-ok_pair a c b d e = pair_is (a, b) (c, d) (gave-injective (a, b) (c, d) e)
+ok_pair a c b d e = pair-injective (a, b) (c, d) (gave-injective (a, b) (c, d) e)
 
 pub bind_ok : {X Y : Type 0} (r : Result X ModuleFault) (f : X → Result Y ModuleFault) (y : Y) → and_then r f ≡ Ok y
     → (x : X) × (r ≡ Ok x) × (f x ≡ Ok y)
@@ -44,13 +44,13 @@ taken_ok total n bytes x e =
     (ltb-false (length bytes) n p.0, gave-injective (take n bytes, drop n bytes) x p.1)
 
 -- a refusal that is passed on
-pub passed_on : {Y Y' : Type 0} (e : ModuleFault) (r : Result Y ModuleFault) (s : Result Y' ModuleFault)
+pub IsRefusal-passed_on : {Y Y' : Type 0} (e : ModuleFault) (r : Result Y ModuleFault) (s : Result Y' ModuleFault)
     → ((d : ModuleFault) → r ≡ Err d → s ≡ Err d) → IsRefusal e r → IsRefusal e s
-passed_on Header r s f g = f Header g
-passed_on (Size n) r s f g = f (Size n) g
-passed_on (Cut n) r s f g = f (Cut n) g
-passed_on (Word n) r s f g = f (Word n) g
-passed_on (Symbol n) r s f g = f (Symbol n) g
-passed_on (Relocation n) r s f g = f (Relocation n) g
-passed_on (Rest n) r s f g = f (Rest n) g
-passed_on NoMemory r s f g = tt
+IsRefusal-passed_on Header r s f g = f Header g
+IsRefusal-passed_on (Size n) r s f g = f (Size n) g
+IsRefusal-passed_on (Cut n) r s f g = f (Cut n) g
+IsRefusal-passed_on (Word n) r s f g = f (Word n) g
+IsRefusal-passed_on (Symbol n) r s f g = f (Symbol n) g
+IsRefusal-passed_on (Relocation n) r s f g = f (Relocation n) g
+IsRefusal-passed_on (Rest n) r s f g = f (Rest n) g
+IsRefusal-passed_on NoMemory r s f g = tt

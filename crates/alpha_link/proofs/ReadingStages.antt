@@ -61,36 +61,38 @@ ended_some total m (b ∷ rest) e = refl
 abbrev pub HasModuleHeader : List ℕ → Sizes → List ℕ → Type 0
 HasModuleHeader bytes z rest = header_at bytes ≡ Ok (z, rest)
 
-pub to_words : (bytes : List ℕ) (z : Sizes) (b : List ℕ) → HasModuleHeader bytes z b
+pub module_at-coded_at : (bytes : List ℕ) (z : Sizes) (b : List ℕ) → HasModuleHeader bytes z b
     → module_at bytes ≡ coded_at (length bytes) z b
-to_words bytes z b e = module_at-header_at bytes (Ok (z, b)) e
+module_at-coded_at bytes z b e = module_at-header_at bytes (Ok (z, b)) e
 
-pub to_data : (bytes : List ℕ) (z : Sizes) (b words b2 : List ℕ) → HasModuleHeader bytes z b
+pub module_at-filled_at : (bytes : List ℕ) (z : Sizes) (b words b2 : List ℕ) → HasModuleHeader bytes z b
     → words_at (length bytes) z.words b ≡ Ok (words, b2) → module_at bytes ≡ filled_at (length bytes) z words b2
-to_data bytes z b words b2 e f = to_words bytes z b e ∙ coded_at-words_at (length bytes) z b (Ok (words, b2)) f
+module_at-filled_at bytes z b words b2 e f =
+    module_at-coded_at bytes z b e ∙ coded_at-words_at (length bytes) z b (Ok (words, b2)) f
 
-pub to_symbols : (bytes : List ℕ) (z : Sizes) (b words b2 stored b3 : List ℕ) → HasModuleHeader bytes z b
+pub module_at-named_at : (bytes : List ℕ) (z : Sizes) (b words b2 stored b3 : List ℕ) → HasModuleHeader bytes z b
     → words_at (length bytes) z.words b ≡ Ok (words, b2) → taken (length bytes) z.filled b2 ≡ Ok (stored, b3)
     → module_at bytes ≡ named_at (length bytes) z words stored b3
-to_symbols bytes z b words b2 stored b3 e f g =
-    to_data bytes z b words b2 e f ∙ filled_at-taken (length bytes) z words b2 (Ok (stored, b3)) g
+module_at-named_at bytes z b words b2 stored b3 e f g =
+    module_at-filled_at bytes z b words b2 e f ∙ filled_at-taken (length bytes) z words b2 (Ok (stored, b3)) g
 
-pub to_relocations : (bytes : List ℕ) (z : Sizes) (b words b2 stored b3 : List ℕ) (symbols : List Named) (b4 : List ℕ)
+pub module_at-relocated_at : (bytes : List ℕ) (z : Sizes) (b words b2 stored b3 : List ℕ) (symbols : List Named)
+    (b4 : List ℕ)
     → HasModuleHeader bytes z b → words_at (length bytes) z.words b ≡ Ok (words, b2)
     → taken (length bytes) z.filled b2 ≡ Ok (stored, b3)
     → items_at (symbol_at (length bytes) z) z.symbols [] b3 ≡ Ok (symbols, b4)
     → module_at bytes ≡ relocated_at (length bytes) z words stored symbols b4
-to_relocations bytes z b words b2 stored b3 symbols b4 e f g h =
-    to_symbols bytes z b words b2 stored b3 e f g
+module_at-relocated_at bytes z b words b2 stored b3 symbols b4 e f g h =
+    module_at-named_at bytes z b words b2 stored b3 e f g
     ∙ named_at-items_at (length bytes) z words stored b3 (Ok (symbols, b4)) h
 
-pub to_end : (bytes : List ℕ) (z : Sizes) (b words b2 stored b3 : List ℕ)
+pub module_at-ended : (bytes : List ℕ) (z : Sizes) (b words b2 stored b3 : List ℕ)
     (symbols : List Named) (b4 : List ℕ) (relocations : List Relocation) (b5 : List ℕ)
     → HasModuleHeader bytes z b → words_at (length bytes) z.words b ≡ Ok (words, b2)
     → taken (length bytes) z.filled b2 ≡ Ok (stored, b3)
     → items_at (symbol_at (length bytes) z) z.symbols [] b3 ≡ Ok (symbols, b4)
     → items_at (relocation_at (length bytes) z (body words stored)) z.relocations [] b4 ≡ Ok (relocations, b5)
     → module_at bytes ≡ ended (length bytes) (parts z words stored symbols relocations) b5
-to_end bytes z b words b2 stored b3 symbols b4 relocations b5 e f g h i =
-    to_relocations bytes z b words b2 stored b3 symbols b4 e f g h
+module_at-ended bytes z b words b2 stored b3 symbols b4 relocations b5 e f g h i =
+    module_at-relocated_at bytes z b words b2 stored b3 symbols b4 e f g h
     ∙ relocated_at-items_at (length bytes) z words stored symbols b4 (Ok (relocations, b5)) i

@@ -21,7 +21,7 @@ use Rattle.alpha_asm.specs.declared.statement.RelocField.TheVariants.{Branch, Hi
 use Rattle.alpha_link.specs.declared.relocation.Relocation.{Relocation}
 use Rattle.alpha_link.specs.Relocations.{Body, kind_of, kind_number, is_addend, relocation_fits, made_relocation}
 use Rattle.alpha_link.specs.Relocations.{relocation_in, good_relocation, relocation_at, relocation_bytes, IsRelocation}
-use Rattle.alpha_link.proofs.ReadingResults.{pair_is, unless_err, cond-Ok}
+use Rattle.alpha_link.proofs.ReadingResults.{pair-injective, unless_err, cond-Ok}
 use Rattle.alpha_link.proofs.ItemLists.{IsFormat}
 use Rattle.alpha_link.proofs.TwoByteNumbers.{first_byte}
 
@@ -45,7 +45,7 @@ good_relocation_ok : (z : Sizes) (b : Body) (before : List Relocation)
 good_relocation_ok z b before None r behind rest e = absurd cc
 good_relocation_ok z b before (Some t) r behind rest e =
     let a = cond-Ok (relocation_fits z b before t) (faults.Relocation (length before)) (t, behind) (r, rest) e in
-    let p = pair_is (t, behind) (r, rest) a.1 in
+    let p = pair-injective (t, behind) (r, rest) a.1 in
     (ap Some p.0, ap (relocation_fits z b before) (sym p.0) ∙ a.0, p.1)
 
 made_is : (bytes : List ℕ) (o : Option RelocationKind) (r : Relocation) → option_map (made_relocation bytes) o ≡ Some r

@@ -21,7 +21,7 @@ use Rattle.alpha_link.specs.Relocations.{Body, body, stands_at, follows, follows
 use Rattle.alpha_link.specs.Parts.{AreGood}
 use Rattle.alpha_link.specs.Linked.{Located, use_of, displacement, insn_with, code_at, code_after}
 use Rattle.alpha_link.specs.Output.{code_with_all}
-use Rattle.alpha_link.proofs.SourceSymbols.{last_append}
+use Rattle.alpha_link.proofs.SourceSymbols.{slice_get-last}
 use Rattle.alpha_link.proofs.RelocationBytes.{and-first_true, and-second_true}
 use Rattle.alpha_link.proofs.ShiftedRelocations.{code_at_shift}
 
@@ -115,13 +115,14 @@ one_put (Insn by) offset words bytes own code d known stands fresh none =
 one_put Quad offset words bytes own code d known stands fresh none = rw (none refl) refl
 
 -- the addresses of a module put in behind other code
-pub takes_all : (addresses : List (Option ℕ)) (l : Located) (z : Sizes) (words bytes : List ℕ) (own old : List Form)
+pub code_with_all-append : (addresses : List (Option ℕ)) (l : Located) (z : Sizes) (words bytes : List ℕ)
+    (own old : List Form)
     → l.words ≡ length old → map decoded words ≡ map Some own
     → (before rs : List Relocation) (code : List Form) → AreGood (IsRelocation z (body words bytes)) before rs
     → IsUnchangedBehind (slice_get before (length before - 1)) own code
     → code_with_all addresses l rs (old ++ code) ≡ old ++ code_after addresses l rs code
-takes_all addresses l z words bytes own old here known before [] code good fresh = refl
-takes_all addresses l z words bytes own old here known before (r ∷ rs) code (good, rest) fresh =
+code_with_all-append addresses l z words bytes own old here known before [] code good fresh = refl
+code_with_all-append addresses l z words bytes own old here known before (r ∷ rs) code (good, rest) fresh =
     let d = displacement addresses l r in
     let place = r.offset / 4 in
     let last = slice_get before (length before - 1) in
@@ -135,8 +136,8 @@ takes_all addresses l z words bytes own old here known before (r ∷ rs) code (g
     λ so k h. code_at_other r.kind d place k code (λ e. omega (arith, e, h)) ∙ clean so k (omega (arith, h)) in
     ap (λ (n : ℕ). code_with_all addresses l rs (code_at_any d (n + place) (old ++ code))) here
     ∙ (ap (code_with_all addresses l rs) (code_at_shift old code place d ∙ ap (λ (c : List Form). old ++ c) one)
-    ∙ takes_all addresses l z words bytes own old here known (before ++ r ∷ []) rs next rest
-    (subst (λ (o : Option Relocation). IsUnchangedBehind o own next) (sym (last_append before r)) later))
+    ∙ code_with_all-append addresses l z words bytes own old here known (before ++ r ∷ []) rs next rest
+    (subst (λ (o : Option Relocation). IsUnchangedBehind o own next) (sym (slice_get-last before r)) later))
 
 -- putting addresses in leaves how many instructions there are
 length-code_at : (kind : RelocationKind) (p : ℕ) (o : Option Displacement) (code : List Form)

@@ -16,7 +16,7 @@ use Rattle.alpha_text.specs.Reading.{LineStmt}
 use Rattle.alpha_image.specs.Parts.{IsByte}
 use Rattle.alpha_image.specs.Insns.{IsCodeInsn}
 use Rattle.alpha_image.specs.Rules.{size_of_segment}
-use Rattle.alpha_image.proofs.CodeInsns.{code_words_of_insns}
+use Rattle.alpha_image.proofs.CodeInsns.{IsCodeWord-map_encoded}
 use Rattle.alpha_asm.specs.declared.fault.AsmFault.TheVariants.{ImageField}
 use Rattle.alpha_asm.specs.declared.place.Section.TheVariants as sides
 use Rattle.alpha_asm.specs.declared.place.LabelLocation.{LabelLocation}
@@ -37,9 +37,9 @@ use Rattle.alpha_link.specs.Made.{bad_field, module_within_limits}
 use Rattle.alpha_link.specs.SortedNames.{Rise}
 use Rattle.alpha_link.specs.Unlinked.{IsOfLines, IsNear}
 use Rattle.alpha_link.proofs.SourceSizes.{insns_of, behind_all-words, filled_all, IsWithinPlace, locations_within}
-use Rattle.alpha_link.proofs.WholeLabels.{all_well}
-use Rattle.alpha_link.proofs.SourceSymbols.{IsLocationIn, symbols_good, above_none, names_all}
-use Rattle.alpha_link.proofs.SourceRelocations.{IsFixChain, all_good}
+use Rattle.alpha_link.proofs.WholeLabels.{IsLabel-all_names}
+use Rattle.alpha_link.proofs.SourceSymbols.{IsLocationIn, symbols_good, FirstIsAbove-nil, names_all}
+use Rattle.alpha_link.proofs.SourceRelocations.{IsFixChain, AreGood-all_relocations}
 use Rattle.alpha_link.proofs.FixChains.{code_chain, data_chain}
 
 location_in_sizes : (e : Place) (z : Sizes) (o : Option LabelLocation) → e.words ≡ z.words
@@ -80,9 +80,9 @@ sizes_with u = record {
   relocations = 0;
 }
 
-pub labels_near : (u : Unlinked) → IsOfLines u → length u.code.items ≤ 262144 → u.filled ≤ 16777216
+pub location_named-IsNear : (u : Unlinked) → IsOfLines u → length u.code.items ≤ 262144 → u.filled ≤ 16777216
     → length u.bytes.items + u.zeroed ≤ 16777216 → (name : List ℕ) → IfSome (location_named u.labels name) IsNear
-labels_near u (is, m, all) words few size name =
+location_named-IsNear u (is, m, all) words few size name =
     references_near (sizes_with u) (location_named u.labels name) words size
     (locations_in is u (sizes_with u) m all few refl refl refl name)
 
@@ -109,7 +109,8 @@ bytes_all (x ∷ xs) =
     All-append IsByte (raw_bytes x) (flat_map raw_bytes xs) own (bytes_all xs)
 
 -- what is made of the lines of a module's source is a module
-pub module_good : (u : Unlinked) (names : List (Bor (List ℕ))) (symbols : List Named) (relocations : List Relocation)
+pub IsModule-of_source : (u : Unlinked) (names : List (Bor (List ℕ))) (symbols : List Named)
+    (relocations : List Relocation)
     → IsOfLines u
     → All (IsCodeInsn One) u.code.items → length u.code.items ≤ 262144 → u.filled ≤ 16777216
     → length u.bytes.items + u.zeroed ≤ 16777216 → Rise names
@@ -128,7 +129,7 @@ pub module_good : (u : Unlinked) (names : List (Bor (List ℕ))) (symbols : List
       relocations = relocations;
     })
 unfolding layout
-module_good u names symbols relocations
+IsModule-of_source u names symbols relocations
     (is, m, all) insns words few size rise among made put few_symbols few_relocations =
     let parts : ModuleParts = record {
       words = map encoded u.code.items;
@@ -144,9 +145,10 @@ module_good u names symbols relocations
     ∙ (length-map names (λ n. symbol_at_location n.now (location_named u.labels n.now))
     ∙ sym (length-map names (λ n. n.now))) in
     let whole : AllByRecursion (λ n. IsLabel 1024 n.now) names =
-    names_all (IsLabel 1024) (labels_in (layout is) ++ references_in (layout is)) names (all_well start 1 is all)
+    names_all (IsLabel 1024) (labels_in (layout is) ++ references_in (layout is)) names
+    (IsLabel-all_names start 1 is all)
     (λ q h. sym (among is m q) ∙ h) in
-    let known = (code_words_of_insns One u.code.items insns).1 in
+    let known = (IsCodeWord-map_encoded One u.code.items insns).1 in
     let held : u.bytes.items ≡ flat_map raw_bytes (layout is) = m.bytes few in
     let code : IsFixChain sides.Code (body (map encoded u.code.items) u.bytes.items) 0 (map fix_of u.patches.items) =
     subst (IsFixChain sides.Code (body (map encoded u.code.items) u.bytes.items) 0) (sym m.patches)
@@ -157,15 +159,17 @@ module_good u names symbols relocations
     record {
       few = omega (arith, same);
       size = size;
-      words = (code_words_of_insns One u.code.items insns).0;
+      words = (IsCodeWord-map_encoded One u.code.items insns).0;
       bytes = subst (All IsByte) (sym held) (bytes_all (layout is));
       symbols = subst (AreGood (IsSymbol z) []) (sym made)
-          (symbols_good z (location_named u.labels) [] names (omega (arith, same)) size rise (above_none names) whole
+          (symbols_good z (location_named u.labels) [] names (omega (arith, same)) size rise
+          (FirstIsAbove-nil names) whole
           (locations_in is u z m all few same refl refl));
       symbol_count = few_symbols;
       relocations =
           subst (AreGood (IsRelocation z (body_of parts)) []) (sym put)
-          (all_good z (body_of parts) own (map fix_of u.patches.items) count (omega (arith, count)) code quads);
+          (AreGood-all_relocations z (body_of parts) own (map fix_of u.patches.items) count
+          (omega (arith, count)) code quads);
       relocation_count = few_relocations;
     }
 
@@ -180,7 +184,7 @@ same_symbols known others (n ∷ names) same =
     ∙ ap (λ l. symbol_at_location n.now (known n.now) ∷ l) (same_symbols known others names same)
 
 -- the parts that the items make are those that were made of what was read
-pub module_is : (is : List LineStmt) (u : Unlinked) (names : List (Bor (List ℕ)))
+pub module_of-made_parts : (is : List LineStmt) (u : Unlinked) (names : List (Bor (List ℕ)))
     (symbols : List Named) (relocations : List Relocation)
     → IsUnlinkedOf is u → u.filled ≤ 16777216 → map (λ n. n.now) names ≡ all_names is
     → symbols ≡ map (λ n. symbol_at_location n.now (location_named u.labels n.now)) names
@@ -195,7 +199,7 @@ pub module_is : (is : List LineStmt) (u : Unlinked) (names : List (Bor (List ℕ
       relocations = relocations;
     }
 unfolding module_of
-module_is is u names symbols relocations m few named made put =
+module_of-made_parts is u names symbols relocations m few named made put =
     let first : symbols ≡ map (λ n. symbol_at_location n (location_of (layout is) n)) (all_names is) =
     made ∙ (sym (same_symbols (location_named u.labels) (location_of (layout is)) names m.labels)
     ∙ ap (map (λ n. symbol_at_location n (location_of (layout is) n))) named) in
@@ -218,10 +222,12 @@ same_field is u m =
     ∙ (ap (λ (n : ℕ). bad_field (length u.code.items) n (module_of is).zeroed) (sym m.filled)
     ∙ ap (bad_field (length u.code.items) u.filled) (sym m.zeroed)))
 
-pub sized_refused : (is : List LineStmt) (u : Unlinked) (field : ℕ) → IsUnlinkedOf is u
-    → bad_field (length u.code.items) u.filled u.zeroed ≡ Some field → module_within_limits (module_of is) ≡ Err (ImageField field)
-sized_refused is u field m e = let same = same_field is u m ∙ e in rw same refl
+pub module_within_limits-err : (is : List LineStmt) (u : Unlinked) (field : ℕ) → IsUnlinkedOf is u
+    → bad_field (length u.code.items) u.filled u.zeroed ≡ Some field
+    → module_within_limits (module_of is) ≡ Err (ImageField field)
+module_within_limits-err is u field m e = let same = same_field is u m ∙ e in rw same refl
 
-pub sized_ok : (is : List LineStmt) (u : Unlinked) (made : ModuleParts) → IsUnlinkedOf is u
-    → bad_field (length u.code.items) u.filled u.zeroed ≡ None → module_of is ≡ made → module_within_limits (module_of is) ≡ Ok made
-sized_ok is u made m e same = let none = same_field is u m ∙ e in rw none (ap Ok same)
+pub module_within_limits-ok : (is : List LineStmt) (u : Unlinked) (made : ModuleParts) → IsUnlinkedOf is u
+    → bad_field (length u.code.items) u.filled u.zeroed ≡ None → module_of is ≡ made
+    → module_within_limits (module_of is) ≡ Ok made
+module_within_limits-ok is u made m e same = let none = same_field is u m ∙ e in rw none (ap Ok same)

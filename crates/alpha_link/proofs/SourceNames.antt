@@ -25,7 +25,7 @@ use Rattle.alpha_link.specs.declared.keyed.KeyedName.{KeyedName}
 use Rattle.alpha_link.specs.SortedNames.{Rise}
 use Rattle.alpha_link.specs.Made.{labels_in, references_in, all_names}
 use Rattle.alpha_link.proofs.DistinctNames.{distinct_names}
-use Rattle.alpha_link.proofs.SortedNames.{rising_is, dedup_any}
+use Rattle.alpha_link.proofs.SortedNames.{rising-same_members, any_of-distinct_names}
 
 same_way : (a b : List ℕ) → bytes_eq a b ≡ bytes_eq b a
 same_way a b = by (bytes_eq a b) refl (bytes_eq b a) refl
@@ -130,7 +130,7 @@ pub names_are : (is : List LineStmt) (new : List (Bor (List ℕ))) → Rise new
     → ((q : List ℕ) → are_among new q ≡ list_any (bytes_eq q) (labels_in (layout is) ++ references_in (layout is)))
     → map (λ n. n.now) new ≡ all_names is
 unfolding all_names
-names_are is new rise among = rising_is new (labels_in (layout is) ++ references_in (layout is)) rise among
+names_are is new rise among = rising-same_members new (labels_in (layout is) ++ references_in (layout is)) rise among
 
 -- sorted names rise without their repetitions
 pub sorted_rise : (ks : List KeyedName) → IsSorted (λ a b. slice_cmp nat_cmp a.now b.now) (map (λ k. k.name) ks)
@@ -142,5 +142,5 @@ pub sorted_among : (ks : List KeyedName) (names : List (Bor (List ℕ)))
     → ((q : List ℕ) → list_any (λ k. bytes_eq q k.name.now) ks ≡ are_among names q) → (q : List ℕ)
     → are_among (distinct_names (map (λ k. k.name) ks)) q ≡ are_among names q
 sorted_among ks names same q =
-    dedup_any q (map (λ (k : KeyedName). k.name) ks)
+    any_of-distinct_names q (map (λ (k : KeyedName). k.name) ks)
     ∙ (list_any-map_names (λ (n : Bor (List ℕ)). bytes_eq q n.now) (λ (k : KeyedName). k.name) ks ∙ same q)

@@ -21,7 +21,7 @@ use Rattle.alpha_link.specs.Relocations.{Body, is_addend, stands_at, follows, fo
 use Rattle.alpha_link.specs.Relocations.{IsRelocation}
 use Rattle.alpha_link.specs.Parts.{AreGood}
 use Rattle.alpha_link.specs.Made.{number_in, kind_in, offset_in, relocation_with, relocation_for}
-use Rattle.alpha_link.proofs.SourceSymbols.{last_append}
+use Rattle.alpha_link.proofs.SourceSymbols.{slice_get-last}
 
 -- a kind of relocations of a section
 abbrev pub is_of_section : Section → RelocationKind → Bool
@@ -66,25 +66,29 @@ IsFixChain side b low (f ∷ fs) =
 
 -- a relocation of a section from an offset on follows those before it
 abbrev FollowsFrom : Section → List Relocation → ℕ → Type 0
-FollowsFrom side before low = (r : Relocation) → is_of_section side r.kind ≡ true → low ≤ r.offset → follows_all before r ≡ true
+FollowsFrom side before low =
+    (r : Relocation) → is_of_section side r.kind ≡ true → low ≤ r.offset → follows_all before r ≡ true
 
 ready_up : (side : Section) (before : List Relocation) (low high : ℕ) → low ≤ high → FollowsFrom side before low
     → FollowsFrom side before high
 ready_up side before low high h ready r k l = ready r k (omega arith)
 
-follows_code : (k l : RelocationKind) (a b : ℕ) → is_of_section sides.Code k ≡ true → is_of_section sides.Code l ≡ true → a + 1 ≤ b
+follows_code : (k l : RelocationKind) (a b : ℕ) → is_of_section sides.Code k ≡ true → is_of_section sides.Code l ≡ true
+    → a + 1 ≤ b
     → follows k a l b ≡ true
 follows_code Quad l a b h g le = cc
 follows_code (Insn by) Quad a b h g le = cc
 follows_code (Insn by) (Insn other) a b h g le = grind (arith, nat_tests)
 
-follows_data : (k l : RelocationKind) (a b : ℕ) → is_of_section sides.Data k ≡ true → is_of_section sides.Data l ≡ true → a + 8 ≤ b
+follows_data : (k l : RelocationKind) (a b : ℕ) → is_of_section sides.Data k ≡ true → is_of_section sides.Data l ≡ true
+    → a + 8 ≤ b
     → follows k a l b ≡ true
 follows_data (Insn by) l a b h g le = cc
 follows_data Quad (Insn by) a b h g le = cc
 follows_data Quad Quad a b h g le = grind (arith, nat_tests)
 
-follows_side : (side : Section) (k l : RelocationKind) (a b : ℕ) → is_of_section side k ≡ true → is_of_section side l ≡ true
+follows_side : (side : Section) (k l : RelocationKind) (a b : ℕ) → is_of_section side k ≡ true
+    → is_of_section side l ≡ true
     → a + least_distance side ≤ b → follows k a l b ≡ true
 follows_side sides.Code k l a b h g le = follows_code k l a b h g le
 follows_side sides.Data k l a b h g le = follows_data k l a b h g le
@@ -93,7 +97,7 @@ follows_last : (before : List Relocation) (last r : Relocation) → follows last
     → follows_all (before ++ last ∷ []) r ≡ true
 follows_last before last r h =
     ap (λ (o : Option Relocation). option_map_or (λ l. follows l.kind l.offset r.kind r.offset) o true)
-    (last_append before last)
+    (slice_get-last before last)
     ∙ h
 
 ready_next : (side : Section) (before : List Relocation) (last : Relocation) → is_of_section side last.kind ≡ true
@@ -139,7 +143,8 @@ RelocationContinues-next : (side : Section) (z : Sizes) (b : Body) (names : List
     (filter_map (relocation_for side names) fs))
 RelocationContinues-next side z b names before low f fs k None count few ready so e put rest more =
     more before (offset_in f.at f.name.target + least_distance side)
-    (ready_up side before low (offset_in f.at f.name.target + least_distance side) (omega (arith, put.not_before)) ready) rest
+    (ready_up side before low (offset_in f.at f.name.target + least_distance side)
+    (omega (arith, put.not_before)) ready) rest
 RelocationContinues-next side z b names before low f fs k (Some n) count few ready so e put rest more =
     let r : Relocation = relocation_with k (offset_in f.at f.name.target) f.name.reference.offset n in
     let known : n < length names = number_below names f.name.reference.label n e in (
@@ -220,11 +225,11 @@ good_append Good before (x ∷ xs) ys (here, a) b =
     (here, good_append Good (before ++ x ∷ []) xs ys a (rw (append_assoc before (x ∷ []) xs) b))
 
 -- those of the code and then those of the data
-pub all_good : (z : Sizes) (b : Body) (names : List (List ℕ)) (fs : List Fix) → z.symbols ≡ length names
+pub AreGood-all_relocations : (z : Sizes) (b : Body) (names : List (List ℕ)) (fs : List Fix) → z.symbols ≡ length names
     → length names < 2 ^ 32 → IsFixChain sides.Code b 0 fs → IsFixChain sides.Data b 0 fs
     → AreGood (IsRelocation z b) []
     (filter_map (relocation_for sides.Code names) fs ++ filter_map (relocation_for sides.Data names) fs)
-all_good z b names fs count few words quads =
+AreGood-all_relocations z b names fs count few words quads =
     good_append (IsRelocation z b) [] (filter_map (relocation_for sides.Code names) fs)
     (filter_map (relocation_for sides.Data names) fs)
     (relocations_good sides.Code z b names [] 0 fs count few (λ r k l. refl) words)

@@ -24,8 +24,8 @@ use Rattle.alpha_asm.proofs.NextItem.{length-raw_bytes}
 abbrev pub insns_of : List Placed → List Form
 insns_of xs = flat_map (λ x. raw_insns x.item.statement) xs
 
-pub words_behind : (p : Place) (s : Stmt) → (place_after p s).words ≡ p.words + length (raw_insns s)
-words_behind p s = by (coded s)
+pub place_after-words : (p : Place) (s : Stmt) → (place_after p s).words ≡ p.words + length (raw_insns s)
+place_after-words p s = by (coded s)
   where
     by : (o : Option InsnStmt)
         → p.words + cond {A = ℕ} (is_some o) 1 0 ≡ p.words + length (option_map_or (λ c. c.insn ∷ []) o [])
@@ -39,13 +39,13 @@ behind_all-words p n (i ∷ is) =
     omega (
       arith,
       behind_all-words (place_after p i.statement) (n + 1) is,
-      words_behind p i.statement,
+      place_after-words p i.statement,
       length-append (raw_insns i.statement) (insns_of (placed (place_after p i.statement) (n + 1) is)),
     )
 
-pub filled_behind : (p : Place) (s : Stmt) → segment_in s ≡ None
+pub place_after-filled : (p : Place) (s : Stmt) → segment_in s ≡ None
     → (place_after p s).last.filled ≡ p.last.filled + (data_size s + filled_pad p s)
-filled_behind p s e = rw e refl
+place_after-filled p s e = rw e refl
 
 size_behind : (p : Place) (s : Stmt) → segment_in s ≡ None
     → size_of_segment p.last ≤ size_of_segment (place_after p s).last
@@ -60,7 +60,7 @@ filled_all p n (i ∷ is) (a, all) =
     omega (
       arith,
       filled_all (place_after p i.statement) (n + 1) is all,
-      filled_behind p i.statement a.segment,
+      place_after-filled p i.statement a.segment,
       length-raw_bytes x,
       length-append (raw_bytes x) (flat_map raw_bytes rest),
     )

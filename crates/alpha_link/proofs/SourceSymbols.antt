@@ -20,8 +20,8 @@ use Rattle.alpha_link.specs.Parts.{AreGood}
 use Rattle.alpha_link.specs.Made.{symbol_at_location}
 use Rattle.alpha_link.specs.SortedNames.{Rise}
 
-pub last_append : {A : Type 0} (xs : List A) (x : A) → slice_get (xs ++ x ∷ []) (length (xs ++ x ∷ []) - 1) ≡ Some x
-last_append {A} xs x =
+pub slice_get-last : {A : Type 0} (xs : List A) (x : A) → slice_get (xs ++ x ∷ []) (length (xs ++ x ∷ []) - 1) ≡ Some x
+slice_get-last {A} xs x =
     let there : length (xs ++ x ∷ []) - 1 ≡ length xs = omega (arith, length-append xs (x ∷ [])) in
     ap (slice_get (xs ++ x ∷ [])) there ∙ seam xs
   where
@@ -77,7 +77,8 @@ next_above : (before : List Named) (s : Named) (n : Bor (List ℕ)) (ns : List (
 next_above before s n [] e rise = tt
 next_above before s n (m ∷ ns) e rise =
     let (less, all) = sorted_head (λ a b. slice_cmp nat_cmp a.now b.now) n (m ∷ ns) rise in
-    ap (λ (o : Option Named). option_map_or (λ s. is_lt (slice_cmp nat_cmp s.name m.now)) o true) (last_append before s)
+    ap (λ (o : Option Named). option_map_or (λ s. is_lt (slice_cmp nat_cmp s.name m.now)) o true)
+    (slice_get-last before s)
     ∙ (ap (λ (name : List ℕ). is_lt (slice_cmp nat_cmp name m.now)) e ∙ ap is_lt less)
 
 pub symbols_good : (z : Sizes) (known : List ℕ → Option LabelLocation) (before : List Named) (ns : List (Bor (List ℕ)))
@@ -93,9 +94,9 @@ symbols_good z known before (n ∷ ns) few small rise above (label, labels) with
           (next_above before s n ns (name_so n.now (known n.now)) rise) labels within,
     )
 
-pub above_none : (ns : List (Bor (List ℕ))) → FirstIsAbove [] ns
-above_none [] = tt
-above_none (n ∷ ns) = refl
+pub FirstIsAbove-nil : (ns : List (Bor (List ℕ))) → FirstIsAbove [] ns
+FirstIsAbove-nil [] = tt
+FirstIsAbove-nil (n ∷ ns) = refl
 
 -- what holds for all of some names holds for names that are among them
 among_all : (P : List ℕ → Type 0) (q : List ℕ) (xs : List (List ℕ)) → AllByRecursion P xs

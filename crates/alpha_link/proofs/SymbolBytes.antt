@@ -24,7 +24,7 @@ use Rattle.alpha_link.specs.Symbols.{Named, section_of, section_number, symbol_f
 use Rattle.alpha_link.specs.Symbols.{good_symbol}
 use Rattle.alpha_link.specs.Symbols.{symbol_at, symbol_bytes, IsSymbol}
 use Rattle.alpha_link.specs.Listed.{symbol_from}
-use Rattle.alpha_link.proofs.ReadingResults.{bind_ok, gave-injective, pair_is, unless_err, cond-Ok, taken_ok}
+use Rattle.alpha_link.proofs.ReadingResults.{bind_ok, gave-injective, pair-injective, unless_err, cond-Ok, taken_ok}
 use Rattle.alpha_link.proofs.ItemLists.{IsFormat}
 use Rattle.alpha_link.proofs.TwoByteNumbers.{halfword_at-front, drop-halfword, first_byte}
 
@@ -47,7 +47,7 @@ good_symbol_ok : (z : Sizes) (before : List Named) (o : Option Named) (s : Named
 good_symbol_ok z before None s behind rest e = absurd cc
 good_symbol_ok z before (Some t) s behind rest e =
     let a = cond-Ok (symbol_fits z before t) (faults.Symbol (length before)) (t, behind) (s, rest) e in
-    let b = pair_is (t, behind) (s, rest) a.1 in
+    let b = pair-injective (t, behind) (s, rest) a.1 in
     (ap Some b.0, ap (symbol_fits z before) (sym b.0) ∙ a.0, b.1)
 
 made_is : (front : SymbolHeader) (name : List ℕ) (o : Option SymbolSection) (s : Named)
@@ -133,9 +133,10 @@ length-symbol_bytes : (s : Named) → length (symbol_bytes s) ≡ 7 + length s.n
 unfolding symbol_bytes halfword longword
 length-symbol_bytes s = omega arith
 
-pub short_name : (z : Sizes) (before : List Named) (s : Named) → symbol_fits z before s ≡ true → length s.name ≤ 1024
+pub symbol_fits-name_bound : (z : Sizes) (before : List Named) (s : Named) → symbol_fits z before s ≡ true
+    → length s.name ≤ 1024
 unfolding symbol_fits
-short_name z before s e = leb-true (length s.name) 1024 (first_true _ _ e)
+symbol_fits-name_bound z before s e = leb-true (length s.name) 1024 (first_true _ _ e)
   where
     first_true : (a b : Bool) → (a && b) ≡ true → a ≡ true
     first_true true b e = refl
@@ -156,7 +157,7 @@ symbol_again : (total : ℕ) (z : Sizes) (before : List Named) (s : Named) (rest
     → symbol_at total z before (symbol_bytes s ++ rest) ≡ Ok (s, rest)
 unfolding symbol_at
 symbol_again total z before s rest good =
-    let front = front_again total s rest (short_name z before s good.fits) good.offset in
+    let front = front_again total s rest (symbol_fits-name_bound z before s good.fits) good.offset in
     let long : nat_lt (length (s.name ++ rest)) (length s.name) ≡ false =
     le-ltb _ _ (omega (arith, length-append s.name rest)) in
     let name : take (length s.name) (s.name ++ rest) ≡ s.name = take_at s.name rest (length s.name) refl in
@@ -171,15 +172,15 @@ pub short_names : (z : Sizes) (before xs : List Named) → AreGood (IsSymbol z) 
     → All (λ (s : Named). length s.name ≤ 1024) xs
 short_names z before [] good = All-nil (λ (s : Named). length s.name ≤ 1024)
 short_names z before (s ∷ xs) good =
-    All-cons (λ (s : Named). length s.name ≤ 1024) s xs (short_name z before s good.0.fits)
+    All-cons (λ (s : Named). length s.name ≤ 1024) s xs (symbol_fits-name_bound z before s good.0.fits)
     (short_names z (before ++ s ∷ []) xs good.1)
 
 -- a symbol that is read stands at the front of the bytes
-pub stands_there : (total : ℕ) (z : Sizes) (before : List Named) (bytes : List ℕ) (s : Named) (rest : List ℕ)
+pub symbol_from-front : (total : ℕ) (z : Sizes) (before : List Named) (bytes : List ℕ) (s : Named) (rest : List ℕ)
     → symbol_at total z before bytes ≡ Ok (s, rest)
     → (symbol_from bytes ≡ s) × ((rest ≡ drop (7 + length s.name) bytes) × (7 + length s.name ≤ length bytes))
 unfolding symbol_at symbol_from
-stands_there total z before bytes s rest e =
+symbol_from-front total z before bytes s rest e =
     let a = bind_ok (symbol_header_at total bytes)
     (λ (front : SymbolHeader × List ℕ). and_then (taken total front.0.size front.1) (behind_name z before front.0))
     (s, rest) e in

@@ -4,7 +4,7 @@ use Rattle.std.proofs.Common.{sym, ap, ◌∙◌, arith}
 use Rattle.std.proofs.lemmas.List.{drop-drop, take-append-drop, length-drop}
 use Rattle.byteorder.specs.Endian.{little_from}
 use Rattle.byteorder.specs.Numbers.{little_from-lt, little_number-reads_back}
-use Rattle.alpha_image.proofs.LittleEndianNumbers.{IsBytes, IsBytes-drop, bytes_of_number}
+use Rattle.alpha_image.proofs.LittleEndianNumbers.{IsBytes, IsBytes-drop, bytes_low_first-little_from}
 use Rattle.alpha_link.specs.Bytes.{halfword, halfword_at}
 
 pub length-halfword : (n : ℕ) → length (halfword n) ≡ 2
@@ -25,7 +25,8 @@ halfword-halfword_at : (offset : ℕ) (bytes : List ℕ) → IsBytes bytes → o
     → halfword (halfword_at offset bytes) ≡ take 2 (drop offset bytes)
 unfolding halfword halfword_at
 halfword-halfword_at offset bytes fits long =
-    bytes_of_number 2 (drop offset bytes) (IsBytes-drop offset bytes fits) (omega (arith, length-drop offset bytes))
+    bytes_low_first-little_from 2 (drop offset bytes) (IsBytes-drop offset bytes fits)
+    (omega (arith, length-drop offset bytes))
 
 pub drop-halfword : (bytes : List ℕ) (offset next : ℕ) → IsBytes bytes → next ≤ length bytes → next ≡ offset + 2
     → drop offset bytes ≡ halfword (halfword_at offset bytes) ++ drop next bytes

@@ -72,9 +72,9 @@ names_well p n (i ∷ is) (a, all) =
     (cells_named n (cells i.statement) a.cells) entries))
     (names_well (place_after p i.statement) (n + 1) is all)
 
-pub all_well : (p : Place) (n : ℕ) (is : List LineStmt) → AllByRecursion IsUnlinked is
+pub IsLabel-all_names : (p : Place) (n : ℕ) (is : List LineStmt) → AllByRecursion IsUnlinked is
     → AllByRecursion (IsLabel 1024) (labels_in (placed p n is) ++ references_in (placed p n is))
-all_well p n is all =
+IsLabel-all_names p n is all =
     all_append (IsLabel 1024) (labels_in (placed p n is)) (references_in (placed p n is)) (labels_well p n is all)
     (all_map (IsLabel 1024) (λ (n : Name). n.reference.label) (flat_map names_in (placed p n is))
     (names_well p n is all))

@@ -26,7 +26,7 @@ use Rattle.alpha_image.proofs.CodeWords.{option_map-none}
 use Rattle.alpha_link.specs.declared.fault.ModuleFault.TheVariants.{Cut}
 use Rattle.alpha_link.specs.Reading.{Read, and_then, taken, IsRefusal}
 use Rattle.alpha_link.specs.Spelled.{fault_of_words, unless_bad, words_at}
-use Rattle.alpha_link.proofs.ReadingResults.{bind_ok, ok_pair, taken_ok, pair_is}
+use Rattle.alpha_link.proofs.ReadingResults.{bind_ok, ok_pair, taken_ok, pair-injective}
 
 no_bad_word : {X : Type 0} (o : Option ℕ) (read : Read X) (y : X × List ℕ) → unless_bad o read ≡ Ok y
     → (o ≡ None) × (read ≡ Ok y)
@@ -34,10 +34,10 @@ no_bad_word None read y e = (refl, e)
 no_bad_word (Some place) read y e = absurd cc
 
 -- words without a bad one
-pub words_good : (bytes : List ℕ) → IsBytes bytes → bad_place One (words_of bytes) ≡ None
+pub bad_place-none : (bytes : List ℕ) → IsBytes bytes → bad_place One (words_of bytes) ≡ None
     → All (IsCodeWord One) (words_of bytes)
 unfolding word_fault
-words_good bytes fits e = All-word_fault One (words_of bytes) (words_of-lt bytes fits) (rw e refl)
+bad_place-none bytes fits e = All-word_fault One (words_of bytes) (words_of-lt bytes fits) (rw e refl)
 
 -- words were read
 pub record AreCoded (n : ℕ) (bytes words rest : List ℕ) : Type 0 where
@@ -55,14 +55,14 @@ words_take total n bytes words rest fits e =
     (and_then (taken total (4 * n) bytes) (λ (x : List ℕ × List ℕ). Ok (words_of x.0, x.1))) (words, rest) e in
     let b = bind_ok (taken total (4 * n) bytes) (λ (x : List ℕ × List ℕ). Ok (words_of x.0, x.1)) (words, rest) a.1 in
     let c = taken_ok total (4 * n) bytes b.0 b.1 in
-    let parts = pair_is (code, drop (4 * n) bytes) b.0 c.1 in
+    let parts = pair-injective (code, drop (4 * n) bytes) b.0 c.1 in
     let d = ok_pair (words_of b.0.0) words b.0.1 rest b.2 in
     let same : words_of code ≡ words = ap words_of parts.0 ∙ d.0 in
     let behind : drop (4 * n) bytes ≡ rest = parts.1 ∙ d.1 in
     let long : length code ≡ 4 * n = length-take-le (4 * n) bytes c.0 in
     let here : IsBytes code = IsBytes-take (4 * n) bytes fits in
     record {
-      good = subst (All (IsCodeWord One)) same (words_good code here a.0);
+      good = subst (All (IsCodeWord One)) same (bad_place-none code here a.0);
       count = ap length (sym same) ∙ (length-words_of code ∙ omega arith);
       spelled =
           sym (take-append-drop (4 * n) bytes)
@@ -124,7 +124,7 @@ words_at-whole total n bytes code rest insns fits e behind long none known =
     le-ltb _ _ (omega (arith, ap length e, length-take (4 * n) bytes)) in
     let here : IsBytes code = subst IsBytes (sym e) (IsBytes-take (4 * n) bytes fits) in
     let same : words_of code ≡ map encoded insns = words_of_insns One (words_of code) insns
-    (words_good code here (option_map-none _ (bad_place One (words_of code)) none)) known in
+    (bad_place-none code here (option_map-none _ (bad_place One (words_of code)) none)) known in
     (rw (place, whole, ← e, ← behind, same) refl, same)
 
 bad_place_is : (words : List ℕ) (o : Option ℕ) (place word : ℕ)
@@ -133,13 +133,13 @@ bad_place_is words None place word e = absurd cc
 bad_place_is words (Some p) place word e = cc
 
 -- a bad word, or want of memory
-pub code_refused : (total n : ℕ) (bytes code : List ℕ) (fault : ImageFault) → code ≡ take (4 * n) bytes
+pub words_at-IsRefusal : (total n : ℕ) (bytes code : List ℕ) (fault : ImageFault) → code ≡ take (4 * n) bytes
     → Refuses fault (word_fault One (words_of code)) → IsRefusal (fault_of_words fault) (words_at total n bytes)
 unfolding words_at word_fault
-code_refused total n bytes code (BadWord place word) e h =
+words_at-IsRefusal total n bytes code (BadWord place word) e h =
     let there : bad_place One (words_of (take (4 * n) bytes)) ≡ Some place =
     ap (λ (t : List ℕ). bad_place One (words_of t)) (sym e)
     ∙ bad_place_is (words_of code) (bad_place One (words_of code)) place word h in
     rw there refl
-code_refused total n bytes code (Short a) e h = tt
-code_refused total n bytes code fault e h = tt
+words_at-IsRefusal total n bytes code (Short a) e h = tt
+words_at-IsRefusal total n bytes code fault e h = tt

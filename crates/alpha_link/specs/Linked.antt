@@ -76,8 +76,8 @@ abbrev pub addresses_of : List Located → Located → List (Option ℕ)
 addresses_of ls l = addresses_by (address_of ls) l
 
 -- the address that a relocation puts in, by those of the symbols: its symbol's, and its addend
-abbrev pub target : List (Option ℕ) → Relocation → Option ℤ
-target addresses r =
+abbrev pub relocation_target : List (Option ℕ) → Relocation → Option ℤ
+relocation_target addresses r =
     option_map (λ a. pos a +ℤ r.addend) (option_and_then (λ address. address) (slice_get addresses r.symbol))
 
 abbrev pub use_of : RelocationKind → Option RelocField
@@ -87,7 +87,8 @@ use_of kinds.Quad = None
 -- the displacement that it puts in, if it reaches
 abbrev pub displacement : List (Option ℕ) → Located → Relocation → Option Displacement
 displacement addresses l r =
-    option_and_then (λ by. option_and_then (reached by (code_base + 4 * l.words + r.offset)) (target addresses r))
+    option_and_then
+    (λ by. option_and_then (reached by (code_base + 4 * l.words + r.offset)) (relocation_target addresses r))
     (use_of r.kind)
 
 -- the quadword that it puts in, if it is one
@@ -96,7 +97,7 @@ quadword_at_kind kinds.Quad a = option_and_then quadword_of a
 quadword_at_kind _ a = None
 
 abbrev pub quadword : List (Option ℕ) → Relocation → Option ℕ
-quadword addresses r = quadword_at_kind r.kind (target addresses r)
+quadword addresses r = quadword_at_kind r.kind (relocation_target addresses r)
 
 -- an instruction with another displacement, where the relocation is one of it
 abbrev pub insn_with : RelocationKind → Displacement → Form → Form

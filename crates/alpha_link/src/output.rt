@@ -8,7 +8,7 @@ ghost use Rattle.alpha_table.specs.Decoded.{decoded};
 ghost use Rattle.alpha_image.specs.Insns.{IsCodeInsn};
 ghost use Rattle.alpha_asm.specs.Patches.{IsNear};
 ghost use Rattle.alpha_link.specs.Parts.{IsModule};
-ghost use Rattle.alpha_link.specs.Linked.{target, is_in_range, addresses_by};
+ghost use Rattle.alpha_link.specs.Linked.{relocation_target, is_in_range, addresses_by};
 ghost use Rattle.alpha_link.specs.Addresses.{Knows};
 ghost use Rattle.alpha_link.specs.Names.{found_in};
 ghost use Rattle.alpha_link.specs.Output.{code_with, bytes_with, code_with_all, bytes_with_all, JoinsOne};
@@ -22,8 +22,8 @@ use alpha_table::Insn;
 use std::alloc::{AllocError, Global};
 
 // The address that a relocation puts in: its symbol's, and its addend.
-fn target(addresses: &Addresses<'_, '_>, relocation: &Relocation) -> Option<i128>
-    ensures value { result ≡ target addresses.now relocation.now }
+fn relocation_target(addresses: &Addresses<'_, '_>, relocation: &Relocation) -> Option<i128>
+    ensures value { result ≡ relocation_target addresses.now relocation.now }
     ensures in_range { IfSome result IsNear }
 {
     let address = addresses.get(relocation.symbol as usize)?;
@@ -50,7 +50,7 @@ impl Output {
     }
 
     // Puts in what a relocation of the last module asks for, whatever stands there. Whether it fits.
-    fn put(
+    fn put_relocation(
         &mut self,
         addresses: &Addresses<'_, '_>,
         located: &Located<'_>,
@@ -62,7 +62,7 @@ impl Output {
         ensures bytes { self.new.bytes.items
             ≡ bytes_with addresses.now located.now relocation.now self.old.bytes.items }
     {
-        let Some(address) = target(addresses, relocation) else {
+        let Some(address) = relocation_target(addresses, relocation) else {
             return false;
         };
         let words = located.words;
@@ -81,7 +81,11 @@ impl Output {
     }
 
     // Puts in all that the last module asks for. The least relocation that doesn't fit.
-    fn put_all(&mut self, addresses: &Addresses<'_, '_>, located: &Located<'_>) -> Option<u32>
+    fn put_relocations(
+        &mut self,
+        addresses: &Addresses<'_, '_>,
+        located: &Located<'_>,
+    ) -> Option<u32>
         ensures out_of_range { result ≡ position (λ r. not (is_in_range addresses.now located.now r))
             located.now.parts.relocations }
         ensures code { result ≡ None → self.new.code.items
@@ -93,7 +97,7 @@ impl Output {
     {
         let module = located.module;
         for (number, relocation) in module.relocations.iter().enumerate() {
-            if !self.put(addresses, located, relocation) {
+            if !self.put_relocation(addresses, located, relocation) {
                 return Some(number as u32);
             }
         }
@@ -139,6 +143,6 @@ impl Output {
     {
         let addresses = names.addresses(alloc, located)?;
         self.append(located)?;
-        Ok(self.put_all(&addresses, located))
+        Ok(self.put_relocations(&addresses, located))
     }
 }

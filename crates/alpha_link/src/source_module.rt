@@ -10,9 +10,9 @@ ghost use Rattle.alpha_link.specs.Unlinked.{IsOfLines};
 
 use crate::header::{MOST_DATA, MOST_WORDS};
 use crate::keyed::by_keys;
+use crate::module::Module;
 use crate::source_relocations::{Numbered, put_ranks};
 use crate::source_symbols::Ranked;
-use crate::module::Module;
 use crate::symbol_list::SymbolList;
 use alpha_asm::{AsmFault, Unlinked};
 use alpha_words::NoMemory;

@@ -53,12 +53,12 @@ count_by-none p (x ∷ xs) h =
     omega (arith, count_by-cons p x xs, cond-false {A = ℕ} (p x) 1 0 q.0, count_by-none p xs q.1)
 
 -- where at most one element passes, so it is in the rest, and none there passes if the first does
-pub one-rest : {A : Type 0} (p : A → Bool) (x : A) (xs : List A) → count_by p (x ∷ xs) ≤ 1 → count_by p xs ≤ 1
-one-rest p x xs h = omega (arith, count_by-cons p x xs)
+pub count_by-one_rest : {A : Type 0} (p : A → Bool) (x : A) (xs : List A) → count_by p (x ∷ xs) ≤ 1 → count_by p xs ≤ 1
+count_by-one_rest p x xs h = omega (arith, count_by-cons p x xs)
 
-pub one-first : {A : Type 0} (p : A → Bool) (x : A) (xs : List A) → count_by p (x ∷ xs) ≤ 1 → p x ≡ true
+pub count_by-one_first : {A : Type 0} (p : A → Bool) (x : A) (xs : List A) → count_by p (x ∷ xs) ≤ 1 → p x ≡ true
     → list_any p xs ≡ false
-one-first p x xs h e =
+count_by-one_first p x xs h e =
     false_from_ne_true _
     (λ some. omega (arith, count_by-cons p x xs, cond-true {A = ℕ} (p x) 1 0 e, count_by-pos p xs some))
 
@@ -70,11 +70,12 @@ pub one_passes_both : {A : Type 0} (P : A → Type 0) (p q r c : A → Bool) (xs
 one_passes_both {A = A} P p q r c [] pc qc pqr all one hp hq = hp
 one_passes_both {A = A} P p q r c (x ∷ xs) pc qc pqr all one hp hq =
     let alone : (s : A → Bool) → ((y : A) → P y → s y ≡ true → c y ≡ true) → c x ≡ true → list_any s xs ≡ true → ⊥ =
-    λ s weaker here some. false≢true (sym (one-first c x xs one here) ∙ list_any-weaker P s c xs all.1 weaker some) in
+    λ s weaker here some.
+    false≢true (sym (count_by-one_first c x xs one here) ∙ list_any-weaker P s c xs all.1 weaker some) in
     let first : p x ≡ true → q x ≡ true → list_any r (x ∷ xs) ≡ true =
     λ e f. or_left (r x) _ (pqr x all.0 e f) in
     let rest : list_any p xs ≡ true → list_any q xs ≡ true → list_any r (x ∷ xs) ≡ true =
-    λ e f. or_right (r x) _ (one_passes_both P p q r c xs pc qc pqr all.1 (one-rest c x xs one) e f) in
+    λ e f. or_right (r x) _ (one_passes_both P p q r c xs pc qc pqr all.1 (count_by-one_rest c x xs one) e f) in
     ⊎_elim (λ (e : p x ≡ true). ⊎_elim (λ (f : q x ≡ true). first e f)
     (λ (f : list_any q xs ≡ true). absurd (alone q qc (pc x all.0 e) f)) (or_cases (q x) (list_any q xs) hq))
     (λ (e : list_any p xs ≡ true). ⊎_elim (λ (f : q x ≡ true). absurd (alone p pc (qc x all.0 f) e))

@@ -8,7 +8,8 @@ use Rattle.std.proofs.lemmas.List.{length-append, length-take, length-drop, ext_
 use Rattle.std.proofs.lemmas.List.{get_or-append_right, get_or-take, get_or-drop}
 use Rattle.alpha_mem.specs.Block.{Block, Shape, shape_of, shapes, holds, part, overwritten}
 use Rattle.alpha_mem.specs.Memory.{bytes_at, byte_at, write_bytes}
-use Rattle.alpha_mem.proofs.Blocks.{holds-true, holds-from, all_units, list_any-weaker, one-rest, one-first}
+use Rattle.alpha_mem.proofs.Blocks.{holds-true, holds-from, all_units, list_any-weaker, count_by-one_rest}
+use Rattle.alpha_mem.proofs.Blocks.{count_by-one_first}
 use Rattle.alpha_mem.proofs.Blocks.{shape-overwritten, get_or-overwritten_below, get_or-overwritten_above}
 use Rattle.alpha_mem.proofs.Blocks.{get_or-overwritten_inside}
 
@@ -104,10 +105,12 @@ byte_at-write_bytes_inside (b ∷ m) a xs x apart there low high =
     ⊎_elim (λ (t : holds (shape_of b) a (length xs) ≡ true). absurd (false≢true (sym e ∙ t)))
     (λ (t : list_any (λ s. holds s a (length xs)) (shapes m) ≡ true). t) (or_cases _ _ there) in
     let not_here : bytes-has x (shape_of b) ≡ false =
-    false_from_ne_true _ (λ here. false≢true (sym (one-first (bytes-has x) (shape_of b) (shapes m) (apart x) here)
+    false_from_ne_true _
+    (λ here. false≢true (sym (count_by-one_first (bytes-has x) (shape_of b) (shapes m) (apart x) here)
     ∙ bytes-has-from_holds (shapes m) a (length xs) x low high rest)) in
     byte_at-rest b (write_bytes m a xs) x not_here
-    ∙ byte_at-write_bytes_inside m a xs x (λ y. one-rest (bytes-has y) (shape_of b) (shapes m) (apart y)) rest low high)
+    ∙ byte_at-write_bytes_inside m a xs x
+    (λ y. count_by-one_rest (bytes-has y) (shape_of b) (shapes m) (apart y)) rest low high)
 
 -- equal shapes and equal bytes make equal blocks
 same_block : (b c : Block) → shape_of b ≡ shape_of c → b.bytes ≡ c.bytes → b ≡ c
@@ -132,23 +135,24 @@ rest_bytes : (b c : Block) (m n : List Block) → shape_of b ≡ shape_of c → 
     → byte_at m x ≡ byte_at n x
 rest_bytes b c m n e es apart same x =
     ⊎_elim (λ (h : bytes-has x (shape_of b) ≡ true).
-    let none = one-first (bytes-has x) (shape_of b) (shapes m) (apart x) h in
+    let none = count_by-one_first (bytes-has x) (shape_of b) (shapes m) (apart x) h in
     byte_at-none m x none ∙ sym (byte_at-none n x (ap (λ ss. list_any (bytes-has x) ss) (sym es) ∙ none)))
     (λ (h : bytes-has x (shape_of b) ≡ false). sym (byte_at-rest b m x h)
     ∙ (same x ∙ byte_at-rest c n x (ap (bytes-has x) (sym e) ∙ h)))
     (cases_Bool (bytes-has x (shape_of b)))
 
 -- memories of equal shapes and equal bytes are equal
-pub same_memory : (m n : List Block) → shapes m ≡ shapes n → AreApart (shapes m) → ((x : ℕ) → byte_at m x ≡ byte_at n x)
+pub memory-extensional : (m n : List Block) → shapes m ≡ shapes n → AreApart (shapes m)
+    → ((x : ℕ) → byte_at m x ≡ byte_at n x)
     → m ≡ n
-same_memory [] [] e apart same = refl
-same_memory [] (c ∷ n) e apart same = cc
-same_memory (b ∷ m) [] e apart same = cc
-same_memory (b ∷ m) (c ∷ n) e apart same =
+memory-extensional [] [] e apart same = refl
+memory-extensional [] (c ∷ n) e apart same = cc
+memory-extensional (b ∷ m) [] e apart same = cc
+memory-extensional (b ∷ m) (c ∷ n) e apart same =
     let head : shape_of b ≡ shape_of c = cc in
     let tail : shapes m ≡ shapes n = cc in
     let first = same_block b c head (first_bytes b c m n head same) in
-    let rest = same_memory m n tail (λ x. one-rest (bytes-has x) (shape_of b) (shapes m) (apart x))
+    let rest = memory-extensional m n tail (λ x. count_by-one_rest (bytes-has x) (shape_of b) (shapes m) (apart x))
     (rest_bytes b c m n head tail apart same) in
     ap (λ (z : Block). z ∷ m) first ∙ ap (λ (zs : List Block). c ∷ zs) rest
 
@@ -186,7 +190,7 @@ write_bytes-write_bytes m a xs ys apart there =
     ∙ part_holds (a + length xs) (length ys) (omega arith) (omega arith)) low high
     ∙ (ap (λ k. get_or ys k 0) turned ∙ (sym (get_or-append_right xs ys (length xs) (x - a) 0 refl (omega arith))
     ∙ sym (byte_at-write_bytes_inside m a (xs ++ ys) x apart there (omega arith) (omega arith)))) in
-    same_memory twice whole
+    memory-extensional twice whole
     (shapes-write_bytes once (a + length xs) ys ∙ (same ∙ sym (shapes-write_bytes m a (xs ++ ys))))
     (subst AreApart (sym (shapes-write_bytes once (a + length xs) ys ∙ same)) apart) (λ x.
     ⊎_elim (λ (h : x < a). below x h)
@@ -212,9 +216,9 @@ get_or-bytes_at (b ∷ m) a n k apart there less =
     ⊎_elim (λ (t : holds (shape_of b) a n ≡ true). absurd (false≢true (sym e ∙ t)))
     (λ (t : list_any (λ s. holds s a n) (shapes m) ≡ true). t) (or_cases _ _ there) in
     let not_here : bytes-has (a + k) (shape_of b) ≡ false = false_from_ne_true _
-    (λ here. false≢true (sym (one-first (bytes-has (a + k)) (shape_of b) (shapes m) (apart (a + k)) here)
+    (λ here. false≢true (sym (count_by-one_first (bytes-has (a + k)) (shape_of b) (shapes m) (apart (a + k)) here)
     ∙ bytes-has-from_holds (shapes m) a n (a + k) (omega arith) (omega arith) rest)) in
-    get_or-bytes_at m a n k (λ y. one-rest (bytes-has y) (shape_of b) (shapes m) (apart y)) rest less
+    get_or-bytes_at m a n k (λ y. count_by-one_rest (bytes-has y) (shape_of b) (shapes m) (apart y)) rest less
     ∙ sym (byte_at-rest b m (a + k) not_here))
 
 pub length-bytes_at : (m : List Block) (a n : ℕ) → list_any (λ s. holds s a n) (shapes m) ≡ true
@@ -240,6 +244,6 @@ length-bytes_at_le (b ∷ m) a n =
 pub write_bytes-nothing : (m : List Block) (a : ℕ) → AreApart (shapes m) → write_bytes m a [] ≡ m
 write_bytes-nothing m a apart =
     let unmoved = shapes-write_bytes m a [] in
-    same_memory (write_bytes m a []) m unmoved (subst AreApart (sym unmoved) apart)
+    memory-extensional (write_bytes m a []) m unmoved (subst AreApart (sym unmoved) apart)
     (λ x. byte_at-write_bytes_outside m a [] x
     (⊎_elim (λ (h : x < a). inl h) (λ (h : a ≤ x). inr (omega arith)) (cases_lt x a)))

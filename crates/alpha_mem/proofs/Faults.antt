@@ -143,9 +143,9 @@ unfolding fault_of
 fault_of-unaligned ss intent a n h = cond-false _ _ _ (ne_eqb _ _ h)
 
 -- what an access that was judged answers, where its length is n
-pub answers_align : (ss : List Shape) (intent : Intent) (a n k : ℕ) → n ≡ k → (a % n ≡ 0 → ⊥)
+pub fault_of-judged_align : (ss : List Shape) (intent : Intent) (a n k : ℕ) → n ≡ k → (a % n ≡ 0 → ⊥)
     → Some Align ≡ fault_of ss intent a k
-answers_align ss intent a n k e h = sym (fault_of-unaligned ss intent a k (λ z. h (ap (λ j. a % j) e ∙ z)))
+fault_of-judged_align ss intent a n k e h = sym (fault_of-unaligned ss intent a k (λ z. h (ap (λ j. a % j) e ∙ z)))
 
 fault_of-within : (ss : List Shape) (intent : Intent) (a n : ℕ) (size : Size) (there : Bool) → IsLayout ss
     → n ≡ size_of size
@@ -154,13 +154,15 @@ fault_of-within ss intent a n size there layout e aligned h =
     fault_of-aligned ss intent a (size_of size) layout (size_of-divides size) (ap (λ j. a % j) (sym e) ∙ aligned)
     ∙ ap (λ b. cond b None (Some Region)) (ap (λ j. within ss intent a j) (sym e) ∙ h)
 
-pub answers_none : (ss : List Shape) (intent : Intent) (a n : ℕ) (size : Size) → IsLayout ss → n ≡ size_of size
+pub fault_of-judged_none : (ss : List Shape) (intent : Intent) (a n : ℕ) (size : Size) → IsLayout ss → n ≡ size_of size
     → a % n ≡ 0 → within ss intent a n ≡ true → None ≡ fault_of ss intent a (size_of size)
-answers_none ss intent a n size layout e aligned h = sym (fault_of-within ss intent a n size true layout e aligned h)
+fault_of-judged_none ss intent a n size layout e aligned h =
+    sym (fault_of-within ss intent a n size true layout e aligned h)
 
-pub answers_region : (ss : List Shape) (intent : Intent) (a n : ℕ) (size : Size) → IsLayout ss → n ≡ size_of size
+pub fault_of-judged_region : (ss : List Shape) (intent : Intent) (a n : ℕ) (size : Size) → IsLayout ss
+    → n ≡ size_of size
     → a % n ≡ 0 → (within ss intent a n ≡ true → ⊥) → Some Region ≡ fault_of ss intent a (size_of size)
-answers_region ss intent a n size layout e aligned h =
+fault_of-judged_region ss intent a n size layout e aligned h =
     sym (fault_of-within ss intent a n size false layout e aligned (false_from_ne_true _ h))
 
 -- an access with no fault is aligned, and each of its bytes lies in a block
@@ -178,9 +180,9 @@ granted-parts ss intent a n granted =
     (eqb-true _ _ p.0, p.1)
 
 -- an access with no fault lies in one block
-pub within-granted : (ss : List Shape) (intent : Intent) (a n : ℕ) → IsLayout ss → 16 % n ≡ 0
+pub within-no_fault : (ss : List Shape) (intent : Intent) (a n : ℕ) → IsLayout ss → 16 % n ≡ 0
     → fault_of ss intent a n ≡ None → within ss intent a n ≡ true
-within-granted ss intent a n layout divides granted =
+within-no_fault ss intent a n layout divides granted =
     let p = granted-parts ss intent a n granted in
     sym (each_within-aligned ss intent a n layout divides p.0) ∙ p.1
 
@@ -223,12 +225,12 @@ within-below ss intent a n layout some there =
     (sym (within-one_block ss intent a n some) ∙ there)
 
 -- so does an access with no fault
-pub granted-below : (ss : List Shape) (intent : Intent) (a n : ℕ) → IsLayout ss → fault_of ss intent a n ≡ None
+pub fault_of-none_below : (ss : List Shape) (intent : Intent) (a n : ℕ) → IsLayout ss → fault_of ss intent a n ≡ None
     → a + n ≤ 2 ^ 30
 unfolding each_within
-granted-below ss intent a zero layout granted =
+fault_of-none_below ss intent a zero layout granted =
     omega (arith, (granted-parts ss intent a 0 granted).0, mod-zero a)
-granted-below ss intent a (suc n) layout granted =
+fault_of-none_below ss intent a (suc n) layout granted =
     let last =
     and_parts (each_within ss intent a n) (within ss intent (a + n) 1) (granted-parts ss intent a (suc n) granted).1 in
     omega (arith, within-below ss intent (a + n) 1 layout (omega arith) last.1)

@@ -55,9 +55,10 @@ write_bytes-write_bytes m a (x ∷ xs) ys layout there =
     (in_one m a (length ((x ∷ xs) ++ ys)) (omega arith) there)
 
 -- equal shapes and equal bytes make equal memories
-pub same_memory : (m n : List Block) → shapes m ≡ shapes n → IsLayout (shapes m) → ((x : ℕ) → byte_at m x ≡ byte_at n x)
+pub memory-extensional : (m n : List Block) → shapes m ≡ shapes n → IsLayout (shapes m)
+    → ((x : ℕ) → byte_at m x ≡ byte_at n x)
     → m ≡ n
-same_memory m n e layout same = bytes.same_memory m n e layout.apart same
+memory-extensional m n e layout same = bytes.memory-extensional m n e layout.apart same
 
 -- the bytes of a range, one at a time
 pub slice_index-bytes_at : (m : List Block) (a n k : ℕ) → IsLayout (shapes m) → IsTrue (within (shapes m) Load a n)
@@ -121,14 +122,14 @@ each_within-aligned ss intent a n layout divides aligned =
     faults.each_within-aligned ss intent a n layout divides aligned
 
 -- an access with no fault has its bytes in one block
-pub within-granted : (ss : List Shape) (intent : Intent) (a n : ℕ) → IsLayout ss → 16 % n ≡ 0
+pub within-no_fault : (ss : List Shape) (intent : Intent) (a n : ℕ) → IsLayout ss → 16 % n ≡ 0
     → fault_of ss intent a n ≡ None → IsTrue (within ss intent a n)
-within-granted ss intent a n layout divides granted = faults.within-granted ss intent a n layout divides granted
+within-no_fault ss intent a n layout divides granted = faults.within-no_fault ss intent a n layout divides granted
 
 -- and ends at or below 2 ^ 30
-pub granted-below : (ss : List Shape) (intent : Intent) (a n : ℕ) → IsLayout ss → fault_of ss intent a n ≡ None
+pub fault_of-none_below : (ss : List Shape) (intent : Intent) (a n : ℕ) → IsLayout ss → fault_of ss intent a n ≡ None
     → a + n ≤ 2 ^ 30
-granted-below ss intent a n layout granted = faults.granted-below ss intent a n layout granted
+fault_of-none_below ss intent a n layout granted = faults.fault_of-none_below ss intent a n layout granted
 
 -- what a store may write, a load may read
 pub within-readable : (ss : List Shape) (a n : ℕ) → IsTrue (within ss Store a n) → IsTrue (within ss Load a n)

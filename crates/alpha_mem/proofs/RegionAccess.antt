@@ -10,7 +10,7 @@ use Rattle.alpha_mem.specs.Block.{Block, shape_of, shapes, holds, part, overwrit
 use Rattle.alpha_mem.specs.Fault.{fault_of}
 use Rattle.alpha_mem.specs.Memory.{bytes_at, write_bytes, IsMemory}
 use Rattle.alpha_mem.proofs.Numbers.{low_bytes-byte}
-use Rattle.alpha_mem.proofs.Faults.{size_of-pos, answers_none}
+use Rattle.alpha_mem.proofs.Faults.{size_of-pos, fault_of-judged_none}
 use Rattle.alpha_mem.proofs.BlockPlaces.{place-spans, within-found, part-at_position}
 use Rattle.alpha_mem.proofs.Memories.{IsMemory-write_bytes}
 use Rattle.alpha_mem.proofs.Writable.{store_there, set-stored}
@@ -29,7 +29,7 @@ load_fault m i b a size at aligned there =
     let n = size_of size in
     let pos : 0 < n = size_of-pos size in
     let found = region_found m a n i b at.memory.layout pos at.inside (ap (place-spans a n) (sym at.here) ∙ there) in
-    sym (answers_none (shapes m) Load a n size at.memory.layout refl aligned
+    sym (fault_of-judged_none (shapes m) Load a n size at.memory.layout refl aligned
     (within-found m a n i (λ e. omega (arith, e, pos)) (sym found)))
 
 pub load_bytes : (m : List Block) (i : ℕ) (b : Block) (a : ℕ) (size : Size) → IsAt m i b
@@ -50,7 +50,7 @@ store_fault m i b a size at aligned there writes =
     let found = region_found m a n i b at.memory.layout pos at.inside (ap (place-spans a n) (sym at.here) ∙ there) in
     let place =
     writable_found m a n i b at.memory.layout pos found (ap (λ (c : Block). c.writable) (sym at.here) ∙ writes) in
-    sym (answers_none (shapes m) Store a n size at.memory.layout refl aligned
+    sym (fault_of-judged_none (shapes m) Store a n size at.memory.layout refl aligned
     (store_there m m a n size (Some i) refl refl place))
 
 pub store_bytes : (m : List Block) (i : ℕ) (b : Block) (a v : ℕ) (size : Size) → IsAt m i b

@@ -9,7 +9,7 @@ use Rattle.alpha_mem.specs.Block.{Block, shapes}
 use Rattle.alpha_mem.specs.Memory.{IsLayout}
 use Rattle.alpha_mem.proofs.Blocks.{list_any-weaker, all_units}
 use Rattle.alpha_mem.proofs.BlockPlaces.{place-spans, is_some-position}
-use Rattle.alpha_mem.proofs.Writable.{writable-takes, found_at, place_to_write}
+use Rattle.alpha_mem.proofs.Writable.{writable-takes, position-found_at, position-writable_takes}
 
 none_any : (p : Block → Bool) (xs : List Block) → ((k : ℕ) (d : Block) → k < length xs → p (get_or xs k d) ≡ false)
     → list_any p xs ≡ false
@@ -26,7 +26,7 @@ pub region_found : (m : List Block) (a n i : ℕ) (d : Block) → IsLayout (shap
     → place-spans a n (get_or m i d) ≡ true
     → Some i ≡ position (place-spans a n) m
 region_found m a n i d layout some inside h =
-    sym (found_at m a n i (position (place-spans a n) m) layout some inside d h refl
+    sym (position-found_at m a n i (position (place-spans a n) m) layout some inside d h refl
     (is_some-position (place-spans a n) m ∙ list_any_at (place-spans a n) m i d inside h))
 
 -- where no region holds it, there is no first
@@ -53,7 +53,7 @@ writable_found m a n i d layout some found writes = by (position (writable-takes
 
     by : (o : Option ℕ) → position (writable-takes a n) m ≡ o → Some i ≡ o
     by None e = absurd (let no : false ≡ true = sym (ap is_some e) ∙ there in cc)
-    by (Some j) e = found ∙ place_to_write m a n j d layout some e
+    by (Some j) e = found ∙ position-writable_takes m a n j d layout some e
 
 -- no region takes the range that holds it and isn't writable
 pub writable_refused : (m : List Block) (a n i : ℕ) (d : Block) → IsLayout (shapes m) → 0 < n
@@ -64,7 +64,7 @@ writable_refused m a n i d layout some found fixed = by (position (writable-take
     by : (o : Option ℕ) → position (writable-takes a n) m ≡ o → None ≡ o
     by None e = refl
     by (Some j) e =
-        let same : Some i ≡ Some j = found ∙ place_to_write m a n j d layout some e in
+        let same : Some i ≡ Some j = found ∙ position-writable_takes m a n j d layout some e in
         let one : i ≡ j = cc in
         let writes : (get_or m j d).writable ≡ true = (and_parts (get_or m j d).writable
         (place-spans a n (get_or m j d)) (position-Some (writable-takes a n) m j d e).1).0 in

@@ -60,25 +60,26 @@ first_byte a n b some h =
     let p = holds-true (shape_of b) a n h in
     holds-from (shape_of b) a 1 p.0 (omega arith)
 
-pub found_at : (m : List Block) (a n i : ℕ) (o : Option ℕ) → IsLayout (shapes m) → 0 < n → i < length m → (d : Block)
+pub position-found_at : (m : List Block) (a n i : ℕ) (o : Option ℕ) → IsLayout (shapes m) → 0 < n → i < length m
+    → (d : Block)
     → place-spans a n (get_or m i d) ≡ true → position (place-spans a n) m ≡ o → is_some o ≡ true → o ≡ Some i
-found_at m a n i None layout some inside d h e there = absurd (false≢true there)
-found_at m a n i (Some j) layout some inside d h e there =
+position-found_at m a n i None layout some inside d h e there = absurd (false≢true there)
+position-found_at m a n i (Some j) layout some inside d h e there =
     let p = position-Some (place-spans a n) m j d e in
     ap Some
     (same_place (λ (b : Block). holds (shape_of b) a 1) m j i d (omega (arith, layout.apart a, count_by-shapes m a)) p.0
     inside (first_byte a n (get_or m j d) some p.1) (first_byte a n (get_or m i d) some h))
 
 -- the first block that a store may write and that holds the range is the first that holds it
-pub place_to_write : (m : List Block) (a n i : ℕ) (d : Block) → IsLayout (shapes m) → 0 < n
+pub position-writable_takes : (m : List Block) (a n i : ℕ) (d : Block) → IsLayout (shapes m) → 0 < n
     → position (writable-takes a n) m ≡ Some i → position (place-spans a n) m ≡ Some i
-place_to_write m a n i d layout some e =
+position-writable_takes m a n i d layout some e =
     let p = position-Some (writable-takes a n) m i d e in
     let writes : within (shapes m) Store a n ≡ true =
     within-writable m a n (omega arith) ∙ (sym (is_some-position (writable-takes a n) m) ∙ ap is_some e) in
     let there : is_some (position (place-spans a n) m) ≡ true =
     sym (within-position m a n some) ∙ within-readable (shapes m) a n writes in
-    found_at m a n i (position (place-spans a n) m) layout some p.0 d (and_parts _ _ p.1).1 refl there
+    position-found_at m a n i (position (place-spans a n) m) layout some p.0 d (and_parts _ _ p.1).1 refl there
 
 -- a store finds its block exactly where it may write
 pub within-place : (m : List Block) (a n : ℕ) → 0 < n
@@ -91,7 +92,7 @@ pub place_found : (m rs : List Block) (a n : ℕ) (size : Size) (i : ℕ) → Is
 place_found m rs a n size i layout same e found =
     let searched : position (writable-takes a (size_of size)) m ≡ Some i =
     ap (λ k. position (writable-takes a k) m) (sym e) ∙ (ap (position (writable-takes a n)) (sym same) ∙ sym found) in
-    place_to_write m a (size_of size) i (record { first = 0; bytes = []; writable = false }) layout
+    position-writable_takes m a (size_of size) i (record { first = 0; bytes = []; writable = false }) layout
     (size_of-pos size) searched
 
 -- a store may write where the search finds a block

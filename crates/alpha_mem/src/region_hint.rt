@@ -18,7 +18,12 @@ impl Memory {
     /// What [`Memory::load`] answers. `region_hint` is the number of a region, as that of the last access: the region
     /// that is looked at first. Which one it is, or a number that no region has, changes no answer.
     #[inline(always)]
-    pub fn load_with_hint(&self, region_hint: &mut usize, addr: u64, size: Size) -> Result<u64, MemFault>
+    pub fn load_with_hint(
+        &self,
+        region_hint: &mut usize,
+        addr: u64,
+        size: Size,
+    ) -> Result<u64, MemFault>
         ensures fault { result_err result ≡ fault_of (shapes self.now) Load addr (size_of size) }
         ensures ok { IfOk result (λ v. v ≡ little (bytes_at self.now addr (size_of size))) }
         ensures good { IsMemory self.now }

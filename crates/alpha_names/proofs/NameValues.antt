@@ -34,10 +34,10 @@ has_value {X} values names name alike =
     ap is_some found ∙ sym (ap (λ (o : Option ℕ). is_some (option_and_then (slice_get values) o)) found
     ∙ inside_some values k (omega (arith, within, alike))))
 
-pub stands_at : (names : List (List ℕ)) (name : List ℕ) (o : Option ℕ) → o ≡ position (bytes_eq name) names →
+pub position-slice_get : (names : List (List ℕ)) (name : List ℕ) (o : Option ℕ) → o ≡ position (bytes_eq name) names →
     IfSome o (λ number. slice_get names number ≡ Some name)
-stands_at names name None e = tt
-stands_at names name (Some k) e =
+position-slice_get names name None e = tt
+position-slice_get names name (Some k) e =
     let (inside, here, before) = position-Some (bytes_eq name) names k [] (sym e) in
     slice_get-get_or names k [] inside ∙ ap Some (sym ((bytes_eq-Decides name (get_or names k [])).0 here))
 

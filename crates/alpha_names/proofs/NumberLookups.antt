@@ -15,7 +15,7 @@ use Rattle.alpha_names.specs.declared.tree.Look.{Look}
 use Rattle.alpha_names.specs.declared.tree.Look.TheVariants.{Free, Taken, Deep}
 use Rattle.alpha_names.specs.Tree.{seek_in, Fills}
 use Rattle.alpha_names.specs.Finder.{Finder, taken_or, found_by, if_right, other_number, IsOnly, Keeps, Grows}
-use Rattle.alpha_names.proofs.TreeSearches.{by_bool, not_both, is_free, kept_in, filled_in}
+use Rattle.alpha_names.proofs.TreeSearches.{by_bool, not_both, is_free, seek_in-kept, seek_in-filled}
 
 pub none_is_some : {X : Type 0} (x : X) → None ≡ Some x → ⊥
 none_is_some x e = absurd cc
@@ -27,42 +27,42 @@ cond-number true k before behind number goes e = e
 cond-number false k before behind number goes e = goes e
 
 -- what is found by one search or behind it is found by a search that finds no less
-pub stage_keeps : (is_right : ℕ → Bool) (old new : Look) (before behind : Option ℕ) (number : ℕ) →
+pub taken_or-monotone : (is_right : ℕ → Bool) (old new : Look) (before behind : Option ℕ) (number : ℕ) →
     ((l : Look) → is_free l ≡ false → old ≡ l → new ≡ l) → (before ≡ Some number → behind ≡ Some number) →
     taken_or is_right old before ≡ Some number → taken_or is_right new behind ≡ Some number
-stage_keeps is_right (Free place) new before behind number keeps goes e = absurd (none_is_some number e)
-stage_keeps is_right (Taken k) new before behind number keeps goes e =
+taken_or-monotone is_right (Free place) new before behind number keeps goes e = absurd (none_is_some number e)
+taken_or-monotone is_right (Taken k) new before behind number keeps goes e =
     ap (λ (l : Look). taken_or is_right l behind) (keeps (Taken k) refl refl)
     ∙ cond-number (is_right k) k before behind number goes e
-stage_keeps is_right Deep new before behind number keeps goes e =
+taken_or-monotone is_right Deep new before behind number keeps goes e =
     ap (λ (l : Look). taken_or is_right l behind) (keeps Deep refl refl) ∙ goes e
 
-pub stage_finds : (is_right : ℕ → Bool) (number : ℕ) (l : Look) (behind : Option ℕ) → IsOnly number is_right
+pub taken_or-Taken : (is_right : ℕ → Bool) (number : ℕ) (l : Look) (behind : Option ℕ) → IsOnly number is_right
     → l ≡ Taken number →
     taken_or is_right l behind ≡ Some number
-stage_finds is_right number l behind only e =
+taken_or-Taken is_right number l behind only e =
     ap (λ (l : Look). taken_or is_right l behind) e ∙ ap (λ (b : Bool). if b then Some number else behind) only.0
 
-pub stage_passes : (is_right : ℕ → Bool) (number : ℕ) (l : Look) (behind : Option ℕ) → IsOnly number is_right
+pub taken_or-passes : (is_right : ℕ → Bool) (number : ℕ) (l : Look) (behind : Option ℕ) → IsOnly number is_right
     → is_free l ≡ false →
     behind ≡ Some number → taken_or is_right l behind ≡ Some number
-stage_passes is_right number (Free place) behind only taken e = absurd (not_both true refl taken)
-stage_passes is_right number (Taken k) behind only taken e =
+taken_or-passes is_right number (Free place) behind only taken e = absurd (not_both true refl taken)
+taken_or-passes is_right number (Taken k) behind only taken e =
     by_bool (is_right k) ((if is_right k then Some k else behind) ≡ Some number)
     (λ held. ap (λ (b : Bool). if b then Some k else behind) held ∙ ap Some (only.1 k held))
     (λ fails. ap (λ (b : Bool). if b then Some k else behind) fails ∙ e)
-stage_passes is_right number Deep behind only taken e = e
+taken_or-passes is_right number Deep behind only taken e = e
 
 -- a slot of the tree has been filled with the number of a name
 pub grows_free : (old new : ℕ → Slot) (hash : List ℕ → ℕ) (elsewhere : Finder) (name : List ℕ) (number place key : ℕ) →
     key ≡ hash name → seek_in old key ≡ Free place → Fills place key number old new →
     Grows (found_by old hash elsewhere) (found_by new hash elsewhere) name number
 grows_free old new hash elsewhere name number place key e found fills = (
-  λ is_right other k differs before. stage_keeps is_right (seek_in old (hash other)) (seek_in new (hash other))
+  λ is_right other k differs before. taken_or-monotone is_right (seek_in old (hash other)) (seek_in new (hash other))
       (elsewhere is_right other) (elsewhere is_right other) k
-      (kept_in old new place number key found fills (hash other)) (λ g. g) before,
-  λ is_right only. stage_finds is_right number (seek_in new (hash name)) (elsewhere is_right name) only
-      (ap (seek_in new) (sym e) ∙ filled_in old new place number key found fills),
+      (seek_in-kept old new place number key found fills (hash other)) (λ g. g) before,
+  λ is_right only. taken_or-Taken is_right number (seek_in new (hash name)) (elsewhere is_right name) only
+      (ap (seek_in new) (sym e) ∙ seek_in-filled old new place number key found fills),
 )
 
 -- what is found elsewhere has grown, and the tree holds no free slot for the name
@@ -70,16 +70,17 @@ pub grows_elsewhere : (slot : ℕ → Slot) (hash : List ℕ → ℕ) (before be
     is_free (seek_in slot (hash name)) ≡ false → Grows before behind name number →
     Grows (found_by slot hash before) (found_by slot hash behind) name number
 grows_elsewhere slot hash before behind name number taken grows = (
-  λ is_right other k differs e. stage_keeps is_right (seek_in slot (hash other)) (seek_in slot (hash other))
+  λ is_right other k differs e. taken_or-monotone is_right (seek_in slot (hash other)) (seek_in slot (hash other))
       (before is_right other) (behind is_right other) k (λ l f g. g) (grows.0 is_right other k differs) e,
   λ is_right only.
-      stage_passes is_right number (seek_in slot (hash name)) (behind is_right name) only taken (grows.1 is_right only),
+      taken_or-passes is_right number (seek_in slot (hash name)) (behind is_right name) only taken
+      (grows.1 is_right only),
 )
 
 pub keeps_elsewhere : (slot : ℕ → Slot) (hash : List ℕ → ℕ) (before behind : Finder) → Keeps before behind →
     Keeps (found_by slot hash before) (found_by slot hash behind)
 keeps_elsewhere slot hash before behind keeps = λ is_right name number e.
-    stage_keeps is_right (seek_in slot (hash name)) (seek_in slot (hash name)) (before is_right name)
+    taken_or-monotone is_right (seek_in slot (hash name)) (seek_in slot (hash name)) (before is_right name)
     (behind is_right name) number
     (λ l f g. g) (keeps is_right name number) e
 

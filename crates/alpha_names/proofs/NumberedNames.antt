@@ -96,18 +96,18 @@ position-none_apart ns name k none e =
     ∙ fails_before_first (bytes_eq name) ns k [] (omega (arith, within, past))))
 
 -- where all names are found, the number that is found is that of the first such name
-pub first_is_found : (names : List (Bor (List ℕ))) (numbers : Numbers) → AreFoundBy names (number_in numbers)
+pub number_in-first_position : (names : List (Bor (List ℕ))) (numbers : Numbers) → AreFoundBy names (number_in numbers)
     → (name : List ℕ) (k : ℕ) →
     position (bytes_eq name) (map (λ n. n.now) names) ≡ Some k → number_in numbers (is_named names name) name ≡ Some k
-first_is_found names numbers all name k e =
+number_in-first_position names numbers all name k e =
     let ns : List (List ℕ) = map (λ (n : Bor (List ℕ)). n.now) names in
     let (inside, here, before) = position-Some (bytes_eq name) ns k [] e in
     all k name (slice_get-get_or ns k [] inside ∙ ap Some (sym ((bytes_eq-Decides name (get_or ns k [])).0 here)))
 
-pub is_position : (names : List (Bor (List ℕ))) (numbers : Numbers) → AreFoundBy names (number_in numbers)
+pub number_in-position : (names : List (Bor (List ℕ))) (numbers : Numbers) → AreFoundBy names (number_in numbers)
     → (name : List ℕ) →
     number_in numbers (is_named names name) name ≡ position (bytes_eq name) (map (λ n. n.now) names)
-is_position names numbers all name =
+number_in-position names numbers all name =
     let ns : List (List ℕ) = map (λ (n : Bor (List ℕ)). n.now) names in
     let found = number_in numbers (is_named names name) name in
     by_option (position (bytes_eq name) ns) (found ≡ position (bytes_eq name) ns)
@@ -115,7 +115,7 @@ is_position names numbers all name =
     (λ k e.
     absurd (position-none_apart ns name k none
     (is_named-slice_get names name k (numbering-sound numbers (is_named names name) name k e)))))
-    (λ k e. first_is_found names numbers all name k e ∙ sym e)
+    (λ k e. number_in-first_position names numbers all name k e ∙ sym e)
 
 -- the number behind those of some names, and one more name there
 behind_names : (names : List (Bor (List ℕ))) (name : Bor (List ℕ))
@@ -180,20 +180,20 @@ found_still names name old new all none grows = λ k other e.
     not_both (is_named names name k) (is_there names name k (e ∙ ap Some same)) (absent_all names old name all none k))
     (all k other e)
 
-pub none_found : (o : Option ℕ) → true ≡ is_none o → o ≡ None
-none_found None e = refl
-none_found (Some k) e = absurd (not_both true refl e)
+pub is_none-true_none : (o : Option ℕ) → true ≡ is_none o → o ≡ None
+is_none-true_none None e = refl
+is_none-true_none (Some k) e = absurd (not_both true refl e)
 
 -- the number of the name with a number
-pub numbered_so : (names : List (Bor (List ℕ))) (numbers : Numbers) → AreFoundBy names (number_in numbers)
+pub AreFoundBy-number : (names : List (Bor (List ℕ))) (numbers : Numbers) → AreFoundBy names (number_in numbers)
     → (number : ℕ) (o : Option (Bor (List ℕ))) →
     o ≡ slice_get names number → IfSome o (λ n. position (bytes_eq n.now) (map (λ m. m.now) names) ≡ Some number)
-numbered_so names numbers all number None e = tt
-numbered_so names numbers all number (Some n) e =
-    sym (is_position names numbers all n.now)
+AreFoundBy-number names numbers all number None e = tt
+AreFoundBy-number names numbers all number (Some n) e =
+    sym (number_in-position names numbers all n.now)
     ∙ all number n.now
     (slice_get-map (λ (m : Bor (List ℕ)). m.now) names number ∙ ap (option_map (λ (m : Bor (List ℕ)). m.now)) (sym e))
 
-pub some_found : (o : Option ℕ) → false ≡ is_none o → true ≡ is_some o
-some_found None e = absurd (not_both false e refl)
-some_found (Some k) e = refl
+pub is_none-false_some : (o : Option ℕ) → false ≡ is_none o → true ≡ is_some o
+is_none-false_some None e = absurd (not_both false e refl)
+is_none-false_some (Some k) e = refl

@@ -37,10 +37,10 @@ met_free s mark place further e =
     ap (λ (b : ℕ). if nat_eq b 0 then Free place else (if nat_eq s.mark mark then Taken s.number else further)) e
 
 -- where all slots are free
-pub nothing_there : (slot : ℕ → Slot) (hash : ℕ) → ((place : ℕ) → slot place ≡ free)
+pub seek_in-all_free : (slot : ℕ → Slot) (hash : ℕ) → ((place : ℕ) → slot place ≡ free)
     → seek_in slot hash ≡ Free (hash / 2 ^ 52)
 unfolding seek_in
-nothing_there slot hash all =
+seek_in-all_free slot hash all =
     let place = hash / 2 ^ 52 in
     seek_next slot (hash % 2 ^ 32) 20 19 (hash / 2 ^ 32) place refl
     ∙ met_free (slot place) (hash % 2 ^ 32) place _ (ap (λ (s : Slot). s.below) (all place))
@@ -89,13 +89,13 @@ other_slot f g place at free same fails =
     (λ differs. same at differs)
 
 -- what isn't a free slot is found again
-pub found_again : (f g : ℕ → Slot) (place : ℕ) → (f place).below ≡ 0
+pub seek-kept : (f g : ℕ → Slot) (place : ℕ) → (f place).below ≡ 0
     → ((other : ℕ) → nat_eq other place ≡ false → g other ≡ f other) →
     (mark levels path at : ℕ) (l : Look) → is_free l ≡ false → seek f mark levels path at ≡ l
     → seek g mark levels path at ≡ l
 unfolding seek
-found_again f g place free same mark zero path at l taken e = e
-found_again f g place free same mark (suc n) path at l taken e =
+seek-kept f g place free same mark zero path at l taken e = e
+seek-kept f g place free same mark (suc n) path at l taken e =
     by_bool (nat_eq (f at).below 0) (seek g mark (suc n) path at ≡ l)
     (λ held. absurd (not_both (is_free l) (sym (ap is_free (at_first (nat_eq (f at).below 0) (nat_eq (f at).mark mark)
     (Free at) (Taken (f at).number) (seek f mark n (path / 2) ((f at).below + path % 2)) l held e))) taken))
@@ -103,14 +103,14 @@ found_again f g place free same mark (suc n) path at l taken e =
     (other_slot f g place at free same fails)
     ∙ otherwise (nat_eq (f at).below 0) (nat_eq (f at).mark mark) (Free at) (Taken (f at).number)
     (seek f mark n (path / 2) ((f at).below + path % 2)) (seek g mark n (path / 2) ((f at).below + path % 2)) l fails
-    (λ more. found_again f g place free same mark n (path / 2) ((f at).below + path % 2) l taken more) e)
+    (λ more. seek-kept f g place free same mark n (path / 2) ((f at).below + path % 2) l taken more) e)
 
 -- the slot that a search finds free is so
-pub free_there : (f : ℕ → Slot) (place mark levels path at : ℕ) → seek f mark levels path at ≡ Free place
+pub seek-free_slot : (f : ℕ → Slot) (place mark levels path at : ℕ) → seek f mark levels path at ≡ Free place
     → (f place).below ≡ 0
 unfolding seek
-free_there f place mark zero path at e = absurd (not_both (is_free (Free place)) refl (ap is_free (sym e)))
-free_there f place mark (suc n) path at e =
+seek-free_slot f place mark zero path at e = absurd (not_both (is_free (Free place)) refl (ap is_free (sym e)))
+seek-free_slot f place mark (suc n) path at e =
     by_bool (nat_eq (f at).below 0) ((f place).below ≡ 0)
     (λ held. let here : at ≡ place = ap place_of (at_first (nat_eq (f at).below 0) (nat_eq (f at).mark mark) (Free at)
     (Taken (f at).number) (seek f mark n (path / 2) ((f at).below + path % 2)) (Free place) held e) in
@@ -119,18 +119,18 @@ free_there f place mark (suc n) path at e =
     (λ same. absurd (not_both (is_free (Free place)) refl
     (ap is_free (sym (search-skips (nat_eq (f at).below 0) (nat_eq (f at).mark mark) (Free at) (Taken (f at).number)
     (seek f mark n (path / 2) ((f at).below + path % 2)) (Free place) fails same e)))))
-    (λ differs. free_there f place mark n (path / 2) ((f at).below + path % 2)
+    (λ differs. seek-free_slot f place mark n (path / 2) ((f at).below + path % 2)
     (search-goes (nat_eq (f at).below 0) (nat_eq (f at).mark mark) (Free at) (Taken (f at).number)
     (seek f mark n (path / 2) ((f at).below + path % 2)) (Free place) fails differs e)))
 
 -- a search that found a slot free finds the number that it was filled with
-pub finds_filled : (f g : ℕ → Slot) (place number hash : ℕ) → (f place).below ≡ 0 → Fills place hash number f g →
+pub seek-filled : (f g : ℕ → Slot) (place number hash : ℕ) → (f place).below ≡ 0 → Fills place hash number f g →
     (levels path at : ℕ) → seek f (hash % 2 ^ 32) levels path at ≡ Free place
     → seek g (hash % 2 ^ 32) levels path at ≡ Taken number
 unfolding seek
-finds_filled f g place number hash free fills zero path at e =
+seek-filled f g place number hash free fills zero path at e =
     absurd (not_both (is_free (Free place)) refl (ap is_free (sym e)))
-finds_filled f g place number hash free fills (suc n) path at e =
+seek-filled f g place number hash free fills (suc n) path at e =
     let mark = hash % 2 ^ 32 in
     let further = seek f mark n (path / 2) ((f at).below + path % 2) in
     by_bool (nat_eq (f at).below 0) (seek g mark (suc n) path at ≡ Taken number)
@@ -146,32 +146,35 @@ finds_filled f g place number hash free fills (suc n) path at e =
     (other_slot f g place at free fills.1 fails)
     ∙ (comes_to (nat_eq (f at).below 0) (nat_eq (f at).mark mark) (Free at) (Taken (f at).number)
     (seek g mark n (path / 2) ((f at).below + path % 2)) fails differs
-    ∙ finds_filled f g place number hash free fills n (path / 2) ((f at).below + path % 2)
+    ∙ seek-filled f g place number hash free fills n (path / 2) ((f at).below + path % 2)
     (search-goes (nat_eq (f at).below 0) (nat_eq (f at).mark mark) (Free at) (Taken (f at).number) further
     (Free place) fails differs e))))
 
-pub seek_in_is : (slot : ℕ → Slot) (hash : ℕ)
+pub seek_in-seek : (slot : ℕ → Slot) (hash : ℕ)
     → seek_in slot hash ≡ seek slot (hash % 2 ^ 32) 20 (hash / 2 ^ 32) (hash / 2 ^ 52)
 unfolding seek_in
-seek_in_is slot hash = refl
+seek_in-seek slot hash = refl
 
 -- what was found in a tree is found when a slot is filled, and the number in that slot is found too
-pub kept_in : (f g : ℕ → Slot) (place number hash : ℕ) → seek_in f hash ≡ Free place → Fills place hash number f g →
+pub seek_in-kept : (f g : ℕ → Slot) (place number hash : ℕ) → seek_in f hash ≡ Free place
+    → Fills place hash number f g →
     (other : ℕ) (l : Look) → is_free l ≡ false → seek_in f other ≡ l → seek_in g other ≡ l
-kept_in f g place number hash found fills other l taken e =
+seek_in-kept f g place number hash found fills other l taken e =
     let free : (f place).below ≡ 0 =
-    free_there f place (hash % 2 ^ 32) 20 (hash / 2 ^ 32) (hash / 2 ^ 52) (sym (seek_in_is f hash) ∙ found) in
-    seek_in_is g other
-    ∙ found_again f g place free fills.1 (other % 2 ^ 32) 20 (other / 2 ^ 32) (other / 2 ^ 52) l taken
-    (sym (seek_in_is f other) ∙ e)
+    seek-free_slot f place (hash % 2 ^ 32) 20 (hash / 2 ^ 32) (hash / 2 ^ 52) (sym (seek_in-seek f hash) ∙ found) in
+    seek_in-seek g other
+    ∙ seek-kept f g place free fills.1 (other % 2 ^ 32) 20 (other / 2 ^ 32) (other / 2 ^ 52) l taken
+    (sym (seek_in-seek f other) ∙ e)
 
-pub filled_in : (f g : ℕ → Slot) (place number hash : ℕ) → seek_in f hash ≡ Free place → Fills place hash number f g
+pub seek_in-filled : (f g : ℕ → Slot) (place number hash : ℕ) → seek_in f hash ≡ Free place
+    → Fills place hash number f g
     → seek_in g hash ≡ Taken number
-filled_in f g place number hash found fills =
+seek_in-filled f g place number hash found fills =
     let free : (f place).below ≡ 0 =
-    free_there f place (hash % 2 ^ 32) 20 (hash / 2 ^ 32) (hash / 2 ^ 52) (sym (seek_in_is f hash) ∙ found) in
-    seek_in_is g hash
-    ∙ finds_filled f g place number hash free fills 20 (hash / 2 ^ 32) (hash / 2 ^ 52) (sym (seek_in_is f hash) ∙ found)
+    seek-free_slot f place (hash % 2 ^ 32) 20 (hash / 2 ^ 32) (hash / 2 ^ 52) (sym (seek_in-seek f hash) ∙ found) in
+    seek_in-seek g hash
+    ∙ seek-filled f g place number hash free fills 20 (hash / 2 ^ 32) (hash / 2 ^ 52)
+    (sym (seek_in-seek f hash) ∙ found)
 
 pub met_taken : (s : Slot) (mark place : ℕ) (further : Look) → (s.below ≡ 0 → ⊥) → s.mark ≡ mark
     → met s mark place further ≡ Taken s.number
@@ -185,9 +188,9 @@ met_else s mark place further below differs =
     (by_bool (nat_eq s.mark mark) (nat_eq s.mark mark ≡ false) (λ held. absurd (differs (eqb-true s.mark mark held)))
     (λ e. e))
 
-pub seek_none : (slot : ℕ → Slot) (mark n path place : ℕ) → n ≡ 0 → seek slot mark n path place ≡ Deep
+pub seek-zero : (slot : ℕ → Slot) (mark n path place : ℕ) → n ≡ 0 → seek slot mark n path place ≡ Deep
 unfolding seek
-seek_none slot mark n path place e = ap (λ (k : ℕ). seek slot mark k path place) e
+seek-zero slot mark n path place e = ap (λ (k : ℕ). seek slot mark k path place) e
 
 -- the slot of an entry that isn't free
 pub has_number : (entry : Entry) (hash number : ℕ) → entry.mark ≡ hash % 2 ^ 32 → entry.next ≡ number + 1

@@ -143,9 +143,10 @@ is_whole-of (q ∷ qs) front m = elim m [
 ]
 
 -- the tests that decide how reading goes on, each with what it gave
-pub at_end : (b : Bool) (o r : Slots) (left : ℕ) → cond b (Ok o) (fault left BadOperands) ≡ Ok r → (b ≡ true) × (o ≡ r)
-at_end true o r left h = (refl, cc)
-at_end false o r left h = cc
+pub cond-ok_or_fault : (b : Bool) (o r : Slots) (left : ℕ) → cond b (Ok o) (fault left BadOperands) ≡ Ok r
+    → (b ≡ true) × (o ≡ r)
+cond-ok_or_fault true o r left h = (refl, cc)
+cond-ok_or_fault false o r left h = cc
 
 pub grammar-took : (t : Lexeme) (sign : Sign) (o : Slots) (found : Option Piece)
     (more : Piece → Slots → Result Slots OperandFault) (r : Slots)
@@ -162,7 +163,7 @@ grammar-went left (Ok next) more r h = (next, refl, h)
 pub follow-spells : (all : List Pattern) (front : Pattern) (sign : Sign) (ts : Tokens) (o r : Slots)
     → follow all front sign ts o ≡ Ok r → (q : Pattern) × Completes all front q × Spells q sign ts o r
 follow-spells all front sign (End left) o r h =
-    let (e, same) = at_end (is_whole all front) o r left h in
+    let (e, same) = cond-ok_or_fault (is_whole all front) o r left h in
     ([], is_whole-is all front e, same)
 follow-spells all front sign (Bad left) o r h = cc
 follow-spells all front sign (Next t ts) o r h =

@@ -101,9 +101,10 @@ seen_whole bytes all front formed m =
     formed_behind bytes false front [] (rw (append-nil front) (one_of (is_formed bytes false) front all formed m))
 
 -- the four sizes
-pub by_size : (P : ℕ → Shape → Type 0) → P 1 shapes.Bytes → P 2 shapes.Words → P 4 shapes.Longs → P 8 shapes.Quads
+pub list_shape-cases : (P : ℕ → Shape → Type 0) → P 1 shapes.Bytes → P 2 shapes.Words → P 4 shapes.Longs
+    → P 8 shapes.Quads
     → (bytes : ℕ) (s : Shape) → list_shape bytes ≡ Some s → P bytes s
-by_size P one two four eight bytes s =
+list_shape-cases P one two four eight bytes s =
     cond-either (λ r. r ≡ Some s → P bytes s) (eqb bytes 1) _ _
     (λ e h. let b : bytes ≡ 1 = grind (arith, nat_tests) in let same : shapes.Bytes ≡ s = cc in rw (b, ← same) one)
     (λ e.
@@ -119,8 +120,8 @@ by_size P one two four eight bytes s =
 
 pub list_shape-Formed : (bytes : ℕ) (s : Shape) → list_shape bytes ≡ Some s → Formed bytes (patterns s)
 unfolding patterns is_formed is_listed is_again is_valued
-list_shape-Formed = by_size (λ bytes s. Formed bytes (patterns s)) refl refl refl refl
+list_shape-Formed = list_shape-cases (λ bytes s. Formed bytes (patterns s)) refl refl refl refl
 
-pub none_empty : (bytes : ℕ) (s : Shape) → list_shape bytes ≡ Some s → is_whole (patterns s) [] ≡ false
+pub is_whole-nil : (bytes : ℕ) (s : Shape) → list_shape bytes ≡ Some s → is_whole (patterns s) [] ≡ false
 unfolding patterns
-none_empty = by_size (λ bytes s. is_whole (patterns s) [] ≡ false) refl refl refl refl
+is_whole-nil = list_shape-cases (λ bytes s. is_whole (patterns s) [] ≡ false) refl refl refl refl

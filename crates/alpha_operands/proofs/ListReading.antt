@@ -25,11 +25,12 @@ use Rattle.alpha_operands.specs.Walk.{is_whole, piece_behind, front_after, sign_
 use Rattle.alpha_operands.specs.Values.{Listed, number, label, list_shape, then_on, up_to_comma, first_operands}
 use Rattle.alpha_operands.specs.Values.{value_in, value_of, first_value, next_of, AreValuesOf, IsWholeList}
 use Rattle.alpha_operands.specs.Values.{IsReadAsList}
-use Rattle.alpha_operands.proofs.SlotChanges.{a_value, a_label, a_given, filled-changes}
-use Rattle.alpha_operands.proofs.ListPatterns.{is_valued, is_again, is_listed, seen_in, seen_in-front_after, listed_behind}
-use Rattle.alpha_operands.proofs.ListPatterns.{seen_whole, list_shape-Formed, none_empty}
+use Rattle.alpha_operands.proofs.SlotChanges.{a_value, cond-ok, ok-injective, filled-changes}
+use Rattle.alpha_operands.proofs.ListPatterns.{is_valued, is_again, is_listed, seen_in, seen_in-front_after}
+use Rattle.alpha_operands.proofs.ListPatterns.{listed_behind}
+use Rattle.alpha_operands.proofs.ListPatterns.{seen_whole, list_shape-Formed, is_whole-nil}
 use Rattle.alpha_operands.proofs.OperandRanges.{if_in-inside}
-use Rattle.alpha_operands.proofs.Grammar.{at_end, piece_behind-is, is_whole-is, grammar-took, grammar-went}
+use Rattle.alpha_operands.proofs.Grammar.{cond-ok_or_fault, piece_behind-is, is_whole-is, grammar-took, grammar-went}
 
 -- the operands of a value that was seen are one
 abbrev HasValue : Slots → Type 0
@@ -68,16 +69,16 @@ value-stays bytes pieces.Quad t sign o r seen l has h s =
     let (v, e, k) = a_value (number_of pieces.Quad sign (number_value t.text)) OutOfRange _ r h in
     rw (← k, ← (if_in-inside _ _ v e).1) (a_number _ o.offset o.label)
 value-stays bytes pieces.Label t sign o r seen l has h s =
-    let (b, k) = a_label (is_label t.text) _ r h in
+    let (b, k) = cond-ok (is_label t.text) _ r h in
     rw (← k) (label t.text o.offset, refl)
 value-stays bytes pieces.Offset t sign o r seen l has h s =
     let (n, e, k) = a_value (offset_of sign (number_value t.text)) OutOfRange _ r h in
     let (v, is) = has (or_false seen s) in
     rw (← k) (value_in-other_label o.number o.offset n o.label v is)
-value-stays bytes pieces.Plus t sign o r seen l has h s = rw (← a_given _ r h) (has (or_false seen s))
-value-stays bytes pieces.Less t sign o r seen l has h s = rw (← a_given _ r h) (has (or_false seen s))
-value-stays bytes pieces.Minus t sign o r seen l has h s = rw (← a_given _ r h) (has (or_false seen s))
-value-stays bytes pieces.Again t sign o r seen l has h s = rw (← a_given _ r h) (has (or_false seen s))
+value-stays bytes pieces.Plus t sign o r seen l has h s = rw (← ok-injective _ r h) (has (or_false seen s))
+value-stays bytes pieces.Less t sign o r seen l has h s = rw (← ok-injective _ r h) (has (or_false seen s))
+value-stays bytes pieces.Minus t sign o r seen l has h s = rw (← ok-injective _ r h) (has (or_false seen s))
+value-stays bytes pieces.Again t sign o r seen l has h s = rw (← ok-injective _ r h) (has (or_false seen s))
 value-stays bytes p t sign o r seen l has h s = cc
 
 given_too : {A : Type 0} (x y : Option A) (kind : LineFaultKind) (f g : A → Slots) (r : Slots) → y ≡ x
@@ -137,7 +138,8 @@ again-is pieces.Again h = refl
 again-is p h = cc
 
 -- on behind a piece other than the comma of a list
-up_to_comma-behind_piece : (t : Lexeme) (sign : Sign) (o : Slots) (p : Piece) (more : Piece → Slots → Option (Slots × List ℕ))
+up_to_comma-behind_piece : (t : Lexeme) (sign : Sign) (o : Slots) (p : Piece)
+    (more : Piece → Slots → Option (Slots × List ℕ))
     → is_again p ≡ false → up_to_comma t sign o (Some p) more ≡ then_on (filled p t sign o) (more p)
 unfolding is_again
 up_to_comma-behind_piece t sign o pieces.Again more h = cc
@@ -159,7 +161,7 @@ FirstOf-list_shape : (bytes : ℕ) (s : Shape) → list_shape bytes ≡ Some s
     → (seen_in false front ≡ true → HasValue n) →
     follow (patterns s) front sign ts o ≡ Ok r → FirstOf bytes (first_operands (patterns s) front sign us n)
 FirstOf-list_shape bytes s shape c front sign (End cut) (End left) o n r alike has h =
-    let (b, same) = at_end (is_whole (patterns s) front) o r left h in
+    let (b, same) = cond-ok_or_fault (is_whole (patterns s) front) o r left h in
     let (v, is) =
     has (seen_whole bytes (patterns s) front (list_shape-Formed bytes s shape) (is_whole-is (patterns s) front b)) in
     (n, [], v, [], rw (alike, b) refl, is, refl)
@@ -188,7 +190,8 @@ FirstOf-list_shape bytes s shape c front sign (Next u us) (Next t ts) o n r (kin
           subst (λ x. follow (patterns s) (front_after front x) (sign_after x) ts next ≡ Ok r) (again-is p e) m in
           let first : FirstOf bytes (first_operands (patterns s) [] signs.Plus (tokens u.rest) nothing) =
           subst (λ x. FirstOf bytes (first_operands (patterns s) [] signs.Plus x nothing)) behind
-          (FirstOf-list_shape bytes s shape c [] signs.Plus us ts next nothing r alike (HasValue-none_seen nothing) anew) in
+          (FirstOf-list_shape bytes s shape c [] signs.Plus us ts next nothing r alike
+          (HasValue-none_seen nothing) anew) in
           let (w, ws, values) = list-of bytes s u.rest shape first in (
             n,
             u.rest,
@@ -201,7 +204,8 @@ FirstOf-list_shape bytes s shape c front sign (Next u us) (Next t ts) o n r (kin
       | false ↦ λ e.
           let (new, too) = filled-too p t u sign o n next text ok in
           let first : FirstOf bytes (first_operands (patterns s) (front_after front p) (sign_after p) us new) =
-          FirstOf-list_shape bytes s shape c (front_after front p) (sign_after p) us ts next new r alike (λ x. value-stays bytes p u
+          FirstOf-list_shape bytes s shape c (front_after front p) (sign_after p) us ts next new r alike
+          (λ x. value-stays bytes p u
           sign n new (seen_in false front) l has too (sym (seen_in-front_after front p e) ∙ x)) m in
           let same : up_to_comma u sign n (piece_behind (patterns s) front u.kind) more
           ≡ first_operands (patterns s) (front_after front p) (sign_after p) us new =
@@ -215,7 +219,7 @@ FirstOf-list_shape bytes s shape c front sign (Next u us) (Next t ts) o n r (kin
 follow-left : (all : List Pattern) (front : Pattern) (sign : Sign) (ts : Tokens) (o r : Slots)
     → follow all front sign ts o ≡ Ok r → LeftBehind o.left ts r.left
 follow-left all front sign (End left) o r h =
-    let (b, same) = at_end (is_whole all front) o r left h in
+    let (b, same) = cond-ok_or_fault (is_whole all front) o r left h in
     ap (λ (x : Slots). x.left) same
 follow-left all front sign (Bad left) o r h = cc
 follow-left all front sign (Next t ts) o r h =
@@ -230,7 +234,7 @@ follow-left all front sign (Next t ts) o r h =
 some_token : (all : List Pattern) (ts : Tokens) (o r : Slots) (n : ℕ) → is_whole all [] ≡ false
     → follow all [] signs.Plus ts o ≡ Ok r → LeftBehind o.left ts r.left → LeftBehind n ts r.left
 some_token all (End left) o r n none h l =
-    let (b, same) = at_end (is_whole all []) o r left h in
+    let (b, same) = cond-ok_or_fault (is_whole all []) o r left h in
     let no_end : false ≡ true = sym none ∙ b in
     cc
 some_token all (Bad left) o r n none h l = cc
@@ -243,7 +247,7 @@ unfolding operands
 left-within bytes s line o shape h =
     let l : LeftBehind 0 (tokens line) o.left = follow-left (patterns s) [] signs.Plus (tokens line) nothing o h in
     left-rest-falls (length line) (tokens line) o.left (tokens-fall line)
-    (some_token (patterns s) (tokens line) nothing o (length line) (none_empty bytes s shape) h l)
+    (some_token (patterns s) (tokens line) nothing o (length line) (is_whole-nil bytes s shape) h l)
 
 pub values-read : (bytes : ℕ) (list behind : List ℕ) → IsReadAsList bytes list behind → IsWholeList bytes list
 unfolding operands
@@ -251,18 +255,19 @@ values-read bytes list behind (s, o, shape, h, left) =
     let l : LeftBehind 0 (tokens (list ++ behind)) o.left =
     follow-left (patterns s) [] signs.Plus (tokens (list ++ behind)) nothing o h in
     let whole : LeftBehind (length (list ++ behind)) (tokens (list ++ behind)) o.left = some_token (patterns s)
-    (tokens (list ++ behind)) nothing o (length (list ++ behind)) (none_empty bytes s shape) h l in
+    (tokens (list ++ behind)) nothing o (length (list ++ behind)) (is_whole-nil bytes s shape) h l in
     let alike : TokensAlike behind (tokens list) (tokens (list ++ behind)) =
     tokens-cut list behind (length (list ++ behind)) (omega arith) (rw left at whole) in
     list-of bytes s list shape
-    (FirstOf-list_shape bytes s shape behind [] signs.Plus (tokens list) (tokens (list ++ behind)) nothing nothing o alike
+    (FirstOf-list_shape bytes s shape behind [] signs.Plus (tokens list)
+    (tokens (list ++ behind)) nothing nothing o alike
     (HasValue-none_seen nothing) h)
 
 first-none : (bytes : ℕ) (shape : Option Shape) → list_shape bytes ≡ shape
     → option_and_then (λ s. first_value s []) shape ≡ None
 unfolding first_value
 first-none bytes None e = refl
-first-none bytes (Some s) e = rw (tokens-empty [] refl, none_empty bytes s e) refl
+first-none bytes (Some s) e = rw (tokens-empty [] refl, is_whole-nil bytes s e) refl
 
 pub values-none : (bytes : ℕ) → next_of bytes [] ≡ None
 values-none bytes = first-none bytes (list_shape bytes) refl
@@ -274,14 +279,15 @@ no_first bytes list v rest e h =
     sym (values-none bytes) ∙ sym (ap (next_of bytes) e) ∙ h in
     cc
 
-pub one-list : (bytes : ℕ) (list : List ℕ) (vs ws : List Listed) → AreValuesOf bytes list vs → AreValuesOf bytes list ws
+pub AreValuesOf-unique : (bytes : ℕ) (list : List ℕ) (vs ws : List Listed) → AreValuesOf bytes list vs
+    → AreValuesOf bytes list ws
     → vs ≡ ws
-one-list bytes list [] [] h k = refl
-one-list bytes list [] (w ∷ ws) h (rest, k, m) = absurd (no_first bytes list w rest h k)
-one-list bytes list (v ∷ vs) [] (rest, h, m) k = absurd (no_first bytes list v rest k h)
-one-list bytes list (v ∷ vs) (w ∷ ws) (rest, h, m) (other, k, n) =
+AreValuesOf-unique bytes list [] [] h k = refl
+AreValuesOf-unique bytes list [] (w ∷ ws) h (rest, k, m) = absurd (no_first bytes list w rest h k)
+AreValuesOf-unique bytes list (v ∷ vs) [] (rest, h, m) k = absurd (no_first bytes list v rest k h)
+AreValuesOf-unique bytes list (v ∷ vs) (w ∷ ws) (rest, h, m) (other, k, n) =
     let e : (let x : Listed × List ℕ = (v, rest) in x) ≡ (w, other) =
     (let same : (let x : Option (Listed × List ℕ) = Some (v, rest) in x) ≡ Some (w, other) = sym h ∙ k in cc) in
     let head : v ≡ w = ap (λ (x : Listed × List ℕ). x.0) e in
     let behind : rest ≡ other = ap (λ (x : Listed × List ℕ). x.1) e in
-    cc (head, one-list bytes rest vs ws m (rw behind n))
+    cc (head, AreValuesOf-unique bytes rest vs ws m (rw behind n))

@@ -9,7 +9,7 @@ use Rattle.alpha_token.specs.Bytes.{is_label}
 use Rattle.alpha_token.specs.Numeral.{number_value}
 use Rattle.alpha_token.specs.Tokens.{Lexeme, Tokens, End, Bad, Next, tokens}
 use Rattle.alpha_token.proofs.StringLengths.{option_map-some}
-use Rattle.alpha_token.proofs.QuotedTexts.{text-given}
+use Rattle.alpha_token.proofs.QuotedTexts.{option_and_then-some}
 use Rattle.alpha_token.proofs.TokenOrder.{AreInOrder, tokens-fall}
 use Rattle.alpha_operands.specs.declared.piece.Piece.{Piece}
 use Rattle.alpha_operands.specs.declared.piece.Piece.TheVariants as pieces
@@ -27,10 +27,10 @@ use Rattle.alpha_operands.specs.Operands.{Slots, nothing, filled}
 use Rattle.alpha_operands.specs.Walk.{is_whole, piece_behind, front_after, sign_after}
 use Rattle.alpha_operands.specs.Values.{Listed, number, label, view, list_shape, ended, then_on, up_to_comma}
 use Rattle.alpha_operands.specs.Values.{first_operands, value_in, value_of, first_value, next_of, IsOfSize}
-use Rattle.alpha_operands.proofs.SlotChanges.{a_value, a_label, a_given}
+use Rattle.alpha_operands.proofs.SlotChanges.{a_value, cond-ok, ok-injective}
 use Rattle.alpha_operands.proofs.OperandRanges.{if_in-inside}
 use Rattle.alpha_operands.proofs.Grammar.{piece_behind-is}
-use Rattle.alpha_operands.proofs.ListPatterns.{is_listed, Formed, listed_behind, list_shape-Formed, none_empty}
+use Rattle.alpha_operands.proofs.ListPatterns.{is_listed, Formed, listed_behind, list_shape-Formed, is_whole-nil}
 
 -- a number among operands is of the size, where it is a value, and a label is there only where the size is 8
 abbrev IsFineNumber : ℕ → Option Number → Type 0
@@ -54,7 +54,8 @@ in_range-modulo most least signs.Minus (suc n) small h =
     inr (omega arith, omega arith)
 
 fine-1 : (sign : Sign) (n : ℕ) → in_range 255 128 sign n ≡ true → IsOfSize 1 (number (modulo sign n))
-fine-1 sign n h = elim (in_range-modulo 255 128 sign n (omega arith) h) [ inl l ↦ inl (omega arith) | inr (a, b) ↦ inr (a, b) ]
+fine-1 sign n h =
+    elim (in_range-modulo 255 128 sign n (omega arith) h) [ inl l ↦ inl (omega arith) | inr (a, b) ↦ inr (a, b) ]
 
 fine-2 : (sign : Sign) (n : ℕ) → in_range 65535 32768 sign n ≡ true → IsOfSize 2 (number (modulo sign n))
 fine-2 sign n h =
@@ -62,11 +63,13 @@ fine-2 sign n h =
 
 fine-4 : (sign : Sign) (n : ℕ) → in_range (2 ^ 32 - 1) (2 ^ 31) sign n ≡ true → IsOfSize 4 (number (modulo sign n))
 fine-4 sign n h =
-    elim (in_range-modulo (2 ^ 32 - 1) (2 ^ 31) sign n (omega arith) h) [ inl l ↦ inl (omega arith) | inr (a, b) ↦ inr (a, b) ]
+    elim (in_range-modulo (2 ^ 32 - 1) (2 ^ 31) sign n
+    (omega arith) h) [ inl l ↦ inl (omega arith) | inr (a, b) ↦ inr (a, b) ]
 
 fine-8 : (sign : Sign) (n : ℕ) → in_range (2 ^ 64 - 1) (2 ^ 63) sign n ≡ true → IsOfSize 8 (number (modulo sign n))
 fine-8 sign n h =
-    elim (in_range-modulo (2 ^ 64 - 1) (2 ^ 63) sign n (omega arith) h) [ inl l ↦ inl (omega arith) | inr (a, b) ↦ inr (a, b) ]
+    elim (in_range-modulo (2 ^ 64 - 1) (2 ^ 63) sign n
+    (omega arith) h) [ inl l ↦ inl (omega arith) | inr (a, b) ↦ inr (a, b) ]
 
 filled-fine : (bytes : ℕ) (p : Piece) (t : Lexeme) (sign : Sign) (o r : Slots) → is_listed bytes p ≡ true
     → AreFine bytes o → filled p t sign o ≡ Ok r → AreFine bytes r
@@ -88,15 +91,15 @@ filled-fine bytes pieces.Quad t sign o r l (n, m) h =
     let (b, same) = if_in-inside _ _ v e in
     rw (← k, ← same) (rw (eqb-true bytes 8 l) (fine-8 sign (number_value t.text) b), m)
 filled-fine bytes pieces.Label t sign o r l (n, m) h =
-    let (b, k) = a_label (is_label t.text) _ r h in
+    let (b, k) = cond-ok (is_label t.text) _ r h in
     rw (← k) (n, eqb-true bytes 8 l)
 filled-fine bytes pieces.Offset t sign o r l fine h =
     let (v, e, k) = a_value (offset_of sign (number_value t.text)) OutOfRange _ r h in
     rw (← k) fine
-filled-fine bytes pieces.Plus t sign o r l fine h = rw (← a_given _ r h) fine
-filled-fine bytes pieces.Less t sign o r l fine h = rw (← a_given _ r h) fine
-filled-fine bytes pieces.Minus t sign o r l fine h = rw (← a_given _ r h) fine
-filled-fine bytes pieces.Again t sign o r l fine h = rw (← a_given _ r h) fine
+filled-fine bytes pieces.Plus t sign o r l fine h = rw (← ok-injective _ r h) fine
+filled-fine bytes pieces.Less t sign o r l fine h = rw (← ok-injective _ r h) fine
+filled-fine bytes pieces.Minus t sign o r l fine h = rw (← ok-injective _ r h) fine
+filled-fine bytes pieces.Again t sign o r l fine h = rw (← ok-injective _ r h) fine
 filled-fine bytes p t sign o r l fine h = cc
 
 Some-pair : (o f : Slots) (a b : List ℕ) → (let x : Option (Slots × List ℕ) = Some (o, a) in x) ≡ Some (f, b)
@@ -188,7 +191,8 @@ first_value-is : (s : Shape) (list : List ℕ) (v : Listed) (rest : List ℕ) �
     × (value_of o ≡ Some v)
 unfolding first_value
 first_value-is s list v rest h =
-    let (found, e, k) = text-given (λ (found : Slots × List ℕ). option_map (λ v. (v, found.1)) (value_of found.0))
+    let (found, e, k) =
+    option_and_then-some (λ (found : Slots × List ℕ). option_map (λ v. (v, found.1)) (value_of found.0))
     (first_operands (patterns s) [] signs.Plus (tokens list) nothing) (v, rest) h in
     let (w, is, same) = option_map-some (λ (v : Listed). (v, found.1)) (value_of found.0) (v, rest) k in
     let value : w ≡ v = ap (λ (x : Listed × List ℕ). x.0) same in
@@ -203,7 +207,7 @@ value-sized bytes s list v rest shape h =
     first-fine bytes (patterns s) (list_shape-Formed bytes s shape) [] signs.Plus (tokens list) nothing o rest
     (tt, tt) found in (
       value-fine bytes o.number o.offset o.label v n name is,
-      value-shorter (length list) (patterns s) (tokens list) nothing o rest (none_empty bytes s shape)
+      value-shorter (length list) (patterns s) (tokens list) nothing o rest (is_whole-nil bytes s shape)
           (tokens-fall list) found,
     )
 
@@ -214,7 +218,8 @@ pub result-sized : (bytes : ℕ) (s : Shape) (list : List ℕ) (r : Option (List
 result-sized bytes s list None shape h = (tt, tt)
 result-sized bytes s list (Some v) shape h = value-sized bytes s list (view v.0) v.1.now shape (sym h)
 
-pub next-sized : (bytes : ℕ) (list : List ℕ) (v : Listed × List ℕ) → next_of bytes list ≡ Some v → IsOfSize bytes v.0
-next-sized bytes list v h =
-    let (s, shape, first) = text-given (λ (shape : Shape). first_value shape list) (list_shape bytes) v h in
+pub next_of-IsOfSize : (bytes : ℕ) (list : List ℕ) (v : Listed × List ℕ) → next_of bytes list ≡ Some v
+    → IsOfSize bytes v.0
+next_of-IsOfSize bytes list v h =
+    let (s, shape, first) = option_and_then-some (λ (shape : Shape). first_value shape list) (list_shape bytes) v h in
     (value-sized bytes s list v.0 v.1 shape first).0

@@ -24,7 +24,7 @@ use Rattle.alpha_operands.specs.Grammar.{ContinuesOperand, AreOperands, AmongTok
 use Rattle.alpha_operands.specs.Grammar.{NoLater}
 use Rattle.alpha_token.proofs.TokenOrder.{AreInOrder}
 use Rattle.alpha_operands.proofs.Grammar.{Distinct, piece_behind-is, piece_behind-none, is_whole-is, is_whole-of}
-use Rattle.alpha_operands.proofs.Grammar.{at_end, grammar-took, grammar-went, spells-follow}
+use Rattle.alpha_operands.proofs.Grammar.{cond-ok_or_fault, grammar-took, grammar-went, spells-follow}
 
 no_value : {A : Type 0} (x : Option A) (kind : LineFaultKind) (f g : A → Slots) (why : LineFaultKind)
     → with_value x kind f ≡ Err why → with_value x kind g ≡ Err why
@@ -162,14 +162,15 @@ follow-has all distinct front sign (Next t ts) o f h =
     ]
 
 -- two faults at one column
-pub at_one : (left : ℕ) (a b : LineFaultKind) (f g : OperandFault) → f ≡ fault_at left a → g ≡ fault_at left b
+pub NoLater-same_column : (left : ℕ) (a b : LineFaultKind) (f g : OperandFault) → f ≡ fault_at left a
+    → g ≡ fault_at left b
     → kind_order a ≤ kind_order b → NoLater f g
-at_one left a b f g e k h = rw (e, k) (inr (refl, h))
+NoLater-same_column left a b f g e k h = rw (e, k) (inr (refl, h))
 
 -- and one further on
-pub fault-further : (left : ℕ) (a : LineFaultKind) (f g : OperandFault) → f ≡ fault_at left a → g.left < left
+pub NoLater-further_column : (left : ℕ) (a : LineFaultKind) (f g : OperandFault) → f ≡ fault_at left a → g.left < left
     → NoLater f g
-fault-further left a f g e h = rw e (inl h)
+NoLater-further_column left a f g e h = rw e (inl h)
 
 pub stuck_most : (t : Lexeme) → kind_order (stuck_at t) ≤ 3
 stuck_most t =
@@ -191,10 +192,10 @@ behind_token : (n : ℕ) (all : List Pattern) → Distinct all
 behind_token n all distinct front sign t ts o f g p goes same c (inl (why, bad, e)) ih b has =
     elim has [
       | inl m ↦ elim m [
-        | inl (u, k) ↦ at_one (left_of t) why UnknownName f g e k
+        | inl (u, k) ↦ NoLater-same_column (left_of t) why UnknownName f g e k
             (let w : Err why ≡ Err UnknownName = sym bad ∙ unknown_at p t sign o same u in
             let v : why ≡ UnknownName = cc in rw v (omega arith))
-        | inr d ↦ fault-further (left_of t) why f g e
+        | inr d ↦ NoLater-further_column (left_of t) why f g e
             (let l : g.left ≤ length t.rest = among-left (length t.rest) ts g c d in omega arith)
       ]
       | inr r ↦ elim r [
@@ -207,8 +208,8 @@ behind_token n all distinct front sign t ts o f g p goes same c (inl (why, bad, 
                   let two : filled p t sign nothing ≡ Err why = filled-err p t sign o nothing why bad in
                   let w2 : Err why ≡ Err other = sym two ∙ one in
                   let v : why ≡ other = cc in
-                  at_one (left_of t) why other f g e k (rw v (omega arith))
-              | inr d ↦ fault-further (left_of t) why f g e
+                  NoLater-same_column (left_of t) why other f g e k (rw v (omega arith))
+              | inr d ↦ NoLater-further_column (left_of t) why f g e
                   (let l : g.left ≤ length t.rest =
                   has-left (length t.rest) all (front_after front x) (sign_after x) ts g c d in omega arith)
             ]
@@ -239,20 +240,20 @@ pub follow-first : (n : ℕ) (all : List Pattern) → Distinct all
     → follow all front sign ts o ≡ Err f → HasFault all front sign ts g → NoLater f g
 follow-first n all distinct front sign (End left) o f g f_falls h (not_one, e) =
     let (w, same) = not_whole (is_whole all front) o left f h in
-    at_one left BadOperands BadOperands f g same e (omega arith)
+    NoLater-same_column left BadOperands BadOperands f g same e (omega arith)
 follow-first n all distinct front sign (Bad left) o f g f_falls h e =
-    let same : f ≡ fault_at left BadToken = cc in at_one left BadToken BadToken f g same e (omega arith)
+    let same : f ≡ fault_at left BadToken = cc in NoLater-same_column left BadToken BadToken f g same e (omega arith)
 follow-first n all distinct front sign (Next t ts) o f g (a, b, c) h has =
     elim (took_no t sign o (piece_behind all front t.kind)
     (λ p filled. follow all (front_after front p) (sign_after p) ts filled) f h) [
       | inl (none, e) ↦ elim has [
         | inl m ↦ elim m [
-          | inl (u, k) ↦ at_one (left_of t) (stuck_at t) UnknownName f g e k (stuck_unknown t u)
-          | inr m ↦ fault-further (left_of t) (stuck_at t) f g e
+          | inl (u, k) ↦ NoLater-same_column (left_of t) (stuck_at t) UnknownName f g e k (stuck_unknown t u)
+          | inr m ↦ NoLater-further_column (left_of t) (stuck_at t) f g e
               (let l : g.left ≤ length t.rest = among-left (length t.rest) ts g c m in omega arith)
         ]
         | inr r ↦ elim r [
-          | inl (not_one, k) ↦ at_one (left_of t) (stuck_at t) BadOperands f g e k (stuck_most t)
+          | inl (not_one, k) ↦ NoLater-same_column (left_of t) (stuck_at t) BadOperands f g e k (stuck_most t)
           | inr (p, goes, same, w) ↦ absurd (piece_behind-none all front t.kind p none goes same)
         ]
       ]
@@ -270,7 +271,7 @@ follow-clean : (all : List Pattern) → Distinct all
     → (front : Pattern) (sign : Sign) (ts : Tokens) (o r : Slots) (g : OperandFault) → follow all front sign ts o ≡ Ok r
     → HasFault all front sign ts g → ⊥
 follow-clean all distinct front sign (End left) o r g h (not_one, e) =
-    let (w, same) = at_end (is_whole all front) o r left h in
+    let (w, same) = cond-ok_or_fault (is_whole all front) o r left h in
     not_one (is_whole-is all front w)
 follow-clean all distinct front sign (Bad left) o r g h has = cc
 follow-clean all distinct front sign (Next t ts) o r g h has =
@@ -300,7 +301,7 @@ follow-clean all distinct front sign (Next t ts) o r g h has =
       ]
     ]
 
-pub operands-clean : (all : List Pattern) → Distinct all → (ts : Tokens) (o : Slots) (g : OperandFault)
+pub AreOperands-no_fault : (all : List Pattern) → Distinct all → (ts : Tokens) (o : Slots) (g : OperandFault)
     → AreOperands all ts o → HasFault all [] signs.Plus ts g → ⊥
-operands-clean all distinct ts o g (q, k, s) =
+AreOperands-no_fault all distinct ts o g (q, k, s) =
     follow-clean all distinct [] signs.Plus ts nothing o g (spells-follow all distinct [] q signs.Plus ts nothing o k s)

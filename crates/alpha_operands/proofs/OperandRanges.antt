@@ -21,7 +21,7 @@ use Rattle.alpha_operands.specs.Shapes.{Pattern}
 use Rattle.alpha_operands.specs.Operands.{Slots, filled}
 use Rattle.alpha_operands.specs.Walk.{is_whole, piece_behind, front_after, sign_after, follow}
 use Rattle.alpha_operands.proofs.SlotChanges.{filled-changes}
-use Rattle.alpha_operands.proofs.Grammar.{at_end, grammar-took, grammar-went}
+use Rattle.alpha_operands.proofs.Grammar.{cond-ok_or_fault, grammar-took, grammar-went}
 
 pub if_in-inside : (b : Bool) (y x : Number) → if_in b y ≡ Some x → (b ≡ true) × (y ≡ x)
 if_in-inside true y x h = (refl, cc)
@@ -92,7 +92,7 @@ filled-within p t sign o r good h =
 
 pub follow-within : (all : List Pattern) (front : Pattern) (sign : Sign) (ts : Tokens) (o r : Slots)
     → IfSome o.number IsNumber → follow all front sign ts o ≡ Ok r → IfSome r.number IsNumber
-follow-within all front sign (End left) o r good h = rw (← (at_end (is_whole all front) o r left h).1) good
+follow-within all front sign (End left) o r good h = rw (← (cond-ok_or_fault (is_whole all front) o r left h).1) good
 follow-within all front sign (Bad left) o r good h = cc
 follow-within all front sign (Next t ts) o r good h =
     let (p, e, g) = grammar-took t sign o (piece_behind all front t.kind)

@@ -14,7 +14,8 @@ use Rattle.alpha_operands.proofs.Grammar.{Distinct, same_kind-same, same_piece-s
 abbrev differ_in_token : Pattern → Pattern → Bool
 differ_in_token [] q = true
 differ_in_token (a ∷ p) [] = true
-differ_in_token (a ∷ p) (b ∷ q) = if same_piece a b then differ_in_token p q else not (same_kind (kind_of a) (kind_of b))
+differ_in_token (a ∷ p) (b ∷ q) =
+    if same_piece a b then differ_in_token p q else not (same_kind (kind_of a) (kind_of b))
 
 abbrev apart_from_each : Pattern → List Pattern → Bool
 apart_from_each p [] = true
@@ -24,7 +25,8 @@ abbrev each_apart : List Pattern → List Pattern → Bool
 each_apart [] qs = true
 each_apart (p ∷ ps) qs = apart_from_each p qs && each_apart ps qs
 
-one_from_each : (p q : Pattern) (qs : List Pattern) → apart_from_each p qs ≡ true → IsOneOf q qs → differ_in_token p q ≡ true
+one_from_each : (p q : Pattern) (qs : List Pattern) → apart_from_each p qs ≡ true → IsOneOf q qs
+    → differ_in_token p q ≡ true
 one_from_each p q [] h m = absurd m
 one_from_each p q (x ∷ qs) h m =
     let (a, b) = and_parts (differ_in_token p x) (apart_from_each p qs) h in
@@ -37,13 +39,15 @@ two_apart p q (x ∷ ps) qs h m n =
     let (a, b) = and_parts (apart_from_each x qs) (each_apart ps qs) h in
     elim m [ inl e ↦ rw (← e) (one_from_each x q qs a n) | inr k ↦ two_apart p q ps qs b k n ]
 
-behind_front : (front : Pattern) (a b : Piece) (x y : Pattern) → differ_in_token (front ++ a ∷ x) (front ++ b ∷ y) ≡ true
+behind_front : (front : Pattern) (a b : Piece) (x y : Pattern)
+    → differ_in_token (front ++ a ∷ x) (front ++ b ∷ y) ≡ true
     → kind_of a ≡ kind_of b → a ≡ b
 behind_front [] a b x y h k =
-    let test : (v : Bool) → same_piece a b ≡ v → cond v (differ_in_token x y) (not (same_kind (kind_of a) (kind_of b))) ≡ true
-    → a ≡ b =
+    let test : (v : Bool) → same_piece a b ≡ v
+    → cond v (differ_in_token x y) (not (same_kind (kind_of a) (kind_of b))) ≡ true → a ≡ b =
     λ v.
-    elim v as (λ w. same_piece a b ≡ w → cond w (differ_in_token x y) (not (same_kind (kind_of a) (kind_of b))) ≡ true → a ≡ b) [
+    elim v as (λ w. same_piece a b ≡ w → cond w (differ_in_token x y) (not (same_kind (kind_of a) (kind_of b))) ≡ true
+    → a ≡ b) [
       | true ↦ λ e g. same_piece-is a b e
       | false ↦ λ e g. let no : false ≡ true = rw (same_kind-same (kind_of a) (kind_of b) k) at g in cc
     ] in

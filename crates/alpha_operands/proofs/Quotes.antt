@@ -14,7 +14,7 @@ use Rattle.alpha_operands.specs.Shapes.{Pattern}
 use Rattle.alpha_operands.specs.Operands.{Slots, nothing, between_quotes, filled}
 use Rattle.alpha_operands.specs.Walk.{piece_behind, front_after, sign_after, is_whole, follow, operands}
 use Rattle.alpha_operands.proofs.SlotChanges.{filled-changes}
-use Rattle.alpha_operands.proofs.Grammar.{at_end, piece_behind-is, grammar-took, grammar-went}
+use Rattle.alpha_operands.proofs.Grammar.{cond-ok_or_fault, piece_behind-is, grammar-took, grammar-went}
 
 between-is : (string text : List ℕ) → string ≡ 34 ∷ (text ++ (34 ∷ [])) → between_quotes string ≡ text
 between-is string text e =
@@ -34,7 +34,8 @@ text-stays p t sign o r good k string h =
 
 follow-text : (all : List Pattern) (front : Pattern) (sign : Sign) (ts : Tokens) (o r : Slots) → StringsAmong ts
     → IfSome o.text IsText → follow all front sign ts o ≡ Ok r → IfSome r.text IsText
-follow-text all front sign (End left) o r strings good h = rw (← (at_end (is_whole all front) o r left h).1) good
+follow-text all front sign (End left) o r strings good h =
+    rw (← (cond-ok_or_fault (is_whole all front) o r left h).1) good
 follow-text all front sign (Bad left) o r strings good h = cc
 follow-text all front sign (Next t ts) o r (string, strings) good h =
     let (p, found, g) = grammar-took t sign o (piece_behind all front t.kind)

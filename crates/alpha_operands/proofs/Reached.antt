@@ -15,23 +15,23 @@ use Rattle.alpha_operands.specs.Reached.{HasBehind}
 use Rattle.alpha_operands.proofs.Grammar.{Distinct, piece_behind-only, is_whole-of}
 
 -- a pattern that ends within a front has no piece behind it
-pub none_past : (kind : TokenKind) (front q : Pattern) → length q ≤ length front
+pub head_of_kind-past_end : (kind : TokenKind) (front q : Pattern) → length q ≤ length front
     → head_of_kind kind (rest_of front q) ≡ None
-none_past kind [] [] h = refl
-none_past kind [] (x ∷ q) h = absurd (omega arith)
-none_past kind (a ∷ front) [] h = refl
-none_past kind (a ∷ front) (b ∷ q) h =
+head_of_kind-past_end kind [] [] h = refl
+head_of_kind-past_end kind [] (x ∷ q) h = absurd (omega arith)
+head_of_kind-past_end kind (a ∷ front) [] h = refl
+head_of_kind-past_end kind (a ∷ front) (b ∷ q) h =
     cond-either (λ r. head_of_kind kind r ≡ None) (same_piece b a) (rest_of front q) None
-    (λ e. none_past kind front q (omega arith)) (λ e. refl)
+    (λ e. head_of_kind-past_end kind front q (omega arith)) (λ e. refl)
 
 -- nor has one whose piece there has another form
-pub none_of_kind : (kind : TokenKind) (front q : Pattern) (p : Piece) → length front < length q
+pub head_of_kind-other_kind : (kind : TokenKind) (front q : Pattern) (p : Piece) → length front < length q
     → p ≡ get_or q (length front) p → same_kind (kind_of p) kind ≡ false → head_of_kind kind (rest_of front q) ≡ None
-none_of_kind kind front [] p h e k = absurd (omega arith)
-none_of_kind kind [] (x ∷ q) p h e k = let same : x ≡ p = sym e in rw (same, k) refl
-none_of_kind kind (a ∷ front) (b ∷ q) p h e k =
+head_of_kind-other_kind kind front [] p h e k = absurd (omega arith)
+head_of_kind-other_kind kind [] (x ∷ q) p h e k = let same : x ≡ p = sym e in rw (same, k) refl
+head_of_kind-other_kind kind (a ∷ front) (b ∷ q) p h e k =
     cond-either (λ r. head_of_kind kind r ≡ None) (same_piece b a) (rest_of front q) None
-    (λ s. none_of_kind kind front q p (omega arith) e k) (λ s. refl)
+    (λ s. head_of_kind-other_kind kind front q p (omega arith) e k) (λ s. refl)
 
 -- a pattern in three: so many pieces, the next one, and those behind it
 pub HasBehind-take : (q : Pattern) (n : ℕ) (p : Piece) → n < length q → p ≡ get_or q n p → HasBehind q (take n q) p
@@ -52,13 +52,13 @@ own_piece all distinct q front kind p (inr m) (rest, e) k =
     piece_behind-only all distinct front kind p (rest, rw e at m) k
 
 -- where all of it is read, it ends
-pub own_end : (all : List Pattern) (q : Pattern) (n : ℕ) → (q ≡ []) ⊎ IsOneOf q all → 0 < n → n ≡ length q
+pub is_whole-own_end : (all : List Pattern) (q : Pattern) (n : ℕ) → (q ≡ []) ⊎ IsOneOf q all → 0 < n → n ≡ length q
     → is_whole all (take n q) ≡ true
-own_end all q n (inl none) h e = let f : length q ≡ 0 = ap length none in absurd (omega arith)
-own_end all q n (inr m) h e = rw (e, take-length q) (is_whole-of all q m)
+is_whole-own_end all q n (inl none) h e = let f : length q ≡ 0 = ap length none in absurd (omega arith)
+is_whole-own_end all q n (inr m) h e = rw (e, take-length q) (is_whole-of all q m)
 
-pub one_at : (all : List (Bor Pattern)) (i : ℕ) (d : Bor Pattern) → i < length all
+pub IsOneOf-at : (all : List (Bor Pattern)) (i : ℕ) (d : Bor Pattern) → i < length all
     → IsOneOf (get_or all i d).now (map (λ p. p.now) all)
-one_at [] i d h = absurd (omega arith)
-one_at (x ∷ xs) zero d h = inl refl
-one_at (x ∷ xs) (suc i) d h = inr (one_at xs i d (omega arith))
+IsOneOf-at [] i d h = absurd (omega arith)
+IsOneOf-at (x ∷ xs) zero d h = inl refl
+IsOneOf-at (x ∷ xs) (suc i) d h = inr (IsOneOf-at xs i d (omega arith))

@@ -20,14 +20,15 @@ number_is (Some m) n h = let e : m ≡ n = grind (arith, nat_tests) in ap Some e
 abbrev pub are_first : List (List ℕ × ℕ) → List (List ℕ × ℕ) → Bool
 are_first all rows = list_all (λ row. is_number (named all row.0) row.1) rows
 
-pub first_of : (all rows : List (List ℕ × ℕ)) (name : List ℕ) (n : ℕ) → are_first all rows ≡ true → HasRow rows name n
+pub named-HasRow : (all rows : List (List ℕ × ℕ)) (name : List ℕ) (n : ℕ) → are_first all rows ≡ true
+    → HasRow rows name n
     → named all name ≡ Some n
-first_of all [] name n h m = absurd m
-first_of all (row ∷ rows) name n h m =
+named-HasRow all [] name n h m = absurd m
+named-HasRow all (row ∷ rows) name n h m =
     let (a, b) = and_parts (is_number (named all row.0) row.1) (are_first all rows) h in
     elim m [
       | inl e ↦ rw (← e.0, ← e.1) (number_is (named all row.0) row.1 a)
-      | inr k ↦ first_of all rows name n b k
+      | inr k ↦ named-HasRow all rows name n b k
     ]
 
 -- some row of a list

@@ -18,12 +18,12 @@ pub a_value : {A : Type 0} (x : Option A) (kind : LineFaultKind) (f : A → Slot
 a_value None kind f r h = cc
 a_value (Some v) kind f r h = (v, refl, cc)
 
-pub a_label : (b : Bool) (o r : Slots) → cond b (Ok o) (Err BadOperands) ≡ Ok r → (b ≡ true) × (o ≡ r)
-a_label true o r h = (refl, cc)
-a_label false o r h = cc
+pub cond-ok : (b : Bool) (o r : Slots) → cond b (Ok o) (Err BadOperands) ≡ Ok r → (b ≡ true) × (o ≡ r)
+cond-ok true o r h = (refl, cc)
+cond-ok false o r h = cc
 
-pub a_given : (o r : Slots) → (let x : Result Slots LineFaultKind = Ok o in x) ≡ Ok r → o ≡ r
-a_given o r h = cc
+pub ok-injective : (o r : Slots) → (let x : Result Slots LineFaultKind = Ok o in x) ≡ Ok r → o ≡ r
+ok-injective o r h = cc
 
 -- the bytes behind the token are those left; a string's text is what stands between its quotes, a number is that of its
 -- piece, and what a piece doesn't name stays
@@ -49,20 +49,20 @@ filled-changes pieces.Operator t sign o r h =
     let (v, e, k) = a_value (operator_of t.text) UnknownName _ r h in
     rw (← k) (refl, inl refl, inl refl)
 filled-changes pieces.Label t sign o r h =
-    let (b, k) = a_label (is_label t.text) _ r h in
+    let (b, k) = cond-ok (is_label t.text) _ r h in
     rw (← k) (refl, inl refl, inl refl)
 filled-changes pieces.Offset t sign o r h =
     let (v, e, k) = a_value (offset_of sign (number_value t.text)) OutOfRange _ r h in
     rw (← k) (refl, inl refl, inl refl)
-filled-changes pieces.Text t sign o r h = rw (← a_given _ r h) (refl, inr (refl, refl), inl refl)
-filled-changes pieces.Comma t sign o r h = rw (← a_given _ r h) (refl, inl refl, inl refl)
-filled-changes pieces.Again t sign o r h = rw (← a_given _ r h) (refl, inl refl, inl refl)
-filled-changes pieces.Open t sign o r h = rw (← a_given _ r h) (refl, inl refl, inl refl)
-filled-changes pieces.Close t sign o r h = rw (← a_given _ r h) (refl, inl refl, inl refl)
-filled-changes pieces.Minus t sign o r h = rw (← a_given _ r h) (refl, inl refl, inl refl)
-filled-changes pieces.Plus t sign o r h = rw (← a_given _ r h) (refl, inl refl, inl refl)
-filled-changes pieces.Less t sign o r h = rw (← a_given _ r h) (refl, inl refl, inl refl)
-filled-changes pieces.Dot t sign o r h = rw (← a_given _ r h) (refl, inl refl, inl refl)
+filled-changes pieces.Text t sign o r h = rw (← ok-injective _ r h) (refl, inr (refl, refl), inl refl)
+filled-changes pieces.Comma t sign o r h = rw (← ok-injective _ r h) (refl, inl refl, inl refl)
+filled-changes pieces.Again t sign o r h = rw (← ok-injective _ r h) (refl, inl refl, inl refl)
+filled-changes pieces.Open t sign o r h = rw (← ok-injective _ r h) (refl, inl refl, inl refl)
+filled-changes pieces.Close t sign o r h = rw (← ok-injective _ r h) (refl, inl refl, inl refl)
+filled-changes pieces.Minus t sign o r h = rw (← ok-injective _ r h) (refl, inl refl, inl refl)
+filled-changes pieces.Plus t sign o r h = rw (← ok-injective _ r h) (refl, inl refl, inl refl)
+filled-changes pieces.Less t sign o r h = rw (← ok-injective _ r h) (refl, inl refl, inl refl)
+filled-changes pieces.Dot t sign o r h = rw (← ok-injective _ r h) (refl, inl refl, inl refl)
 filled-changes p t sign o r h =
     let (v, e, k) = a_value (number_of p sign (number_value t.text)) OutOfRange _ r h in
     rw (← k) (refl, inl refl, inr (sym e))

@@ -9,11 +9,11 @@ use Rattle.std.proofs.KnownBytes.{Consumes-nil, Consumes-trans}
 use Rattle.std.specs.Io.KnownBytes.{Consumes}
 use Rattle.alpha_io.specs.History.{Reply, Took, bytes_given, GaveSome}
 use Rattle.alpha_io.specs.Supply.{Supply}
-use Rattle.alpha_io.proofs.FilePieces.{some_bytes}
+use Rattle.alpha_io.proofs.FilePieces.{piece-not_nil}
 use Rattle.alpha_mem.specs.Intent.{Load, Store}
 use Rattle.alpha_mem.specs.Block.{Shape, Block, shapes, within}
 use Rattle.alpha_mem.specs.Memory.{bytes_at, write_bytes, IsLayout}
-use Rattle.alpha_mem.proofs.LawLemmas.{shapes-write_bytes, same_memory, byte_at-write_bytes_outside}
+use Rattle.alpha_mem.proofs.LawLemmas.{shapes-write_bytes, memory-extensional, byte_at-write_bytes_outside}
 use Rattle.alpha_mem.proofs.LawLemmas.{write_bytes-write_bytes, bytes_at-write_bytes, within-part, within-readable}
 use Rattle.alpha_pal.specs.Taken.{HasTaken, TakesPiece, TakesPieces, ReadsInto, FailsOnce, TakesLess}
 
@@ -21,7 +21,7 @@ use Rattle.alpha_pal.specs.Taken.{HasTaken, TakesPiece, TakesPieces, ReadsInto, 
 pub write_nothing : (m : List Block) (a : ℕ) → IsLayout (shapes m) → write_bytes m a [] ≡ m
 write_nothing m a layout =
     let lies = shapes-write_bytes m a [] in
-    same_memory (write_bytes m a []) m lies (subst IsLayout (sym lies) layout)
+    memory-extensional (write_bytes m a []) m lies (subst IsLayout (sym lies) layout)
     (λ x. byte_at-write_bytes_outside m a [] x
     (⊎_elim (λ (p : x < a). inl p) (λ (p : a ≤ x). inr (omega arith)) (cases_lt x a)))
 
@@ -74,7 +74,7 @@ TakesPieces-more m m1 m2 a n k t size s0 s1 s2 layout range total fits some firs
       had = HasTaken-more m m1 m2 a n k t size s0.left s1.left s2.left layout range total fits first.had piece.had;
       takes = first.takes ++ call ∷ [];
       some = All-append GaveSome first.takes (call ∷ []) first.some
-          (All-cons GaveSome call [] (some_bytes k ys piece.had.count some) (All-nil GaveSome));
+          (All-cons GaveSome call [] (piece-not_nil k ys piece.had.count some) (All-nil GaveSome));
       gave_taken = flat_map-append bytes_given first.takes (call ∷ [])
           ∙ (ap (λ (l : List ℕ). l ++ (ys ++ [])) first.gave_taken ∙ ap (λ (l : List ℕ). xs ++ l) (append-nil ys));
       calls = piece.call
@@ -157,10 +157,10 @@ abbrev pub StandsAt : List Block → ℕ → ℕ → List ℕ → Type 0
 StandsAt m a n bytes = IsTrue (within (shapes m) Load a n) × (bytes ≡ bytes_at m a n)
 
 -- bytes that were taken to a range stand in memory behind it
-pub there_behind : (m : List Block) (a size : ℕ) (taken : List ℕ) → IsLayout (shapes m)
+pub StandsAt-write_bytes : (m : List Block) (a size : ℕ) (taken : List ℕ) → IsLayout (shapes m)
     → IsTrue (within (shapes m) Store a size) → length taken ≤ size
     → StandsAt (write_bytes m a taken) a (length taken) taken
-there_behind m a size taken layout range fits =
+StandsAt-write_bytes m a size taken layout range fits =
     let n = length taken in
     let readable : IsTrue (within (shapes m) Load a n) =
     within-readable (shapes m) a n (within-part (shapes m) Store a size a n range (omega arith) (omega arith)) in (
@@ -169,9 +169,9 @@ there_behind m a size taken layout range fits =
     )
 
 -- and so do those of a read
-pub taken_behind : (m m' : List Block) (a n size : ℕ) (left left' : Option (List ℕ)) → IsLayout (shapes m)
+pub StandsAt-HasTaken : (m m' : List Block) (a n size : ℕ) (left left' : Option (List ℕ)) → IsLayout (shapes m)
     → IsTrue (within (shapes m) Store a size) → n ≤ size → (h : HasTaken m m' a n left left') → StandsAt m' a n h.taken
-taken_behind m m' a n size left left' layout range fits h =
-    let there = there_behind m a size h.taken layout range (omega (arith, h.count)) in
+StandsAt-HasTaken m m' a n size left left' layout range fits h =
+    let there = StandsAt-write_bytes m a size h.taken layout range (omega (arith, h.count)) in
     subst (λ (k : ℕ). StandsAt m' a k h.taken) (sym h.count)
     (subst (λ (x : List Block). StandsAt x a (length h.taken) h.taken) (sym h.there) there)

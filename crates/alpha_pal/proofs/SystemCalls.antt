@@ -18,7 +18,7 @@ use Rattle.alpha_pal.specs.Call as traffics
 use Rattle.alpha_pal.specs.Serve.{served, serve_read, serve_write, serve}
 use Rattle.alpha_pal.specs.Passed.{IsPassed}
 use Rattle.alpha_pal.specs.CallEffect.{Takes, ReadsTold, Reads, Serves, TakesPart, passed_by}
-use Rattle.alpha_pal.proofs.InputTaken.{taken_behind}
+use Rattle.alpha_pal.proofs.InputTaken.{StandsAt-HasTaken}
 
 -- ---- what the input has left
 
@@ -145,7 +145,7 @@ pub read_done : (r : SystemCall) (mem mem' : List Block) (left left' : Supply) (
     → Serves r (Read n) mem mem' left left' written written
 read_done r mem mem' left left' written n layout number good range reads fits ended =
     let h = reads.had in
-    let there = taken_behind mem mem' r.a1 n r.a2 left.left left'.left layout range fits h in
+    let there = StandsAt-HasTaken mem mem' r.a1 n r.a2 left.left left'.left layout range fits h in
     let bound : length h.taken ≤ r.a2 = omega (arith, h.count) in
     record {
       traffic = traffics.Read r.a2 h.taken;
@@ -217,5 +217,5 @@ write_done r mem left written written' bytes number good range these wrote = rec
 }
 
 -- a test that isn't true where another isn't
-pub false_with : (b w : Bool) → (IsTrue b ↔ IsTrue w) → b ≡ false → w ≡ false
-false_with b w same fails = false_from_ne_true w (λ h. let e = same.1 h in cc)
+pub IsTrue-false_iff : (b w : Bool) → (IsTrue b ↔ IsTrue w) → b ≡ false → w ≡ false
+IsTrue-false_iff b w same fails = false_from_ne_true w (λ h. let e = same.1 h in cc)

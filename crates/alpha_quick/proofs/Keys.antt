@@ -88,8 +88,9 @@ pub key_number : (name : List ℕ) → length name ≤ 8 → list_all goes_on_na
 key_number name short all = fold_plain name 0 0 (omega arith) (omega arith) all ∙ fold_number name []
 
 -- names of one key are one
-pub one_name : (row name : List ℕ) (key : ℕ) → is_named row key ≡ true → IsKeyed name key → length name ≤ 8 → row ≡ name
-one_name row name key has (all, is) short =
+pub IsKeyed-unique : (row name : List ℕ) (key : ℕ) → is_named row key ≡ true → IsKeyed name key → length name ≤ 8
+    → row ≡ name
+IsKeyed-unique row name key has (all, is) short =
     let (same, others) = and_parts (eqb (key_of row) key) _ has in
     let (few, each) = and_parts (nat_le (length row) 8) (list_all goes_on_name row) others in
     let e : key_of row ≡ key = grind (arith, nat_tests) in
@@ -100,12 +101,12 @@ one_name row name key has (all, is) short =
     sym (reverse-reverse row) ∙ ap reverse r ∙ reverse-reverse name
 
 -- the row at a place has its name's key
-pub named_at : (rows : List KeyedRow) (place : ℕ) (d : KeyedRow) → are_named rows ≡ true → place < length rows
+pub is_named-row_at : (rows : List KeyedRow) (place : ℕ) (d : KeyedRow) → are_named rows ≡ true → place < length rows
     → is_named (name_of (get_or rows place d).row) (get_or rows place d).key.0 ≡ true
-named_at [] place d all within = absurd (omega arith)
-named_at (r ∷ rs) zero d all within = (and_parts (is_named (name_of r.row) r.key.0) (are_named rs) all).0
-named_at (r ∷ rs) (suc place) d all within =
-    named_at rs place d (and_parts (is_named (name_of r.row) r.key.0) (are_named rs) all).1 (omega arith)
+is_named-row_at [] place d all within = absurd (omega arith)
+is_named-row_at (r ∷ rs) zero d all within = (and_parts (is_named (name_of r.row) r.key.0) (are_named rs) all).0
+is_named-row_at (r ∷ rs) (suc place) d all within =
+    is_named-row_at rs place d (and_parts (is_named (name_of r.row) r.key.0) (are_named rs) all).1 (omega arith)
 
 take_two : (name r : List ℕ) → take (length name + 2) (name ++ (47 ∷ (118 ∷ r))) ≡ name ++ (47 ∷ (118 ∷ []))
 take_two [] r = refl
@@ -114,9 +115,9 @@ take_two (b ∷ name) r =
     rw e (ap (λ l. b ∷ l) (take_two name r))
 
 -- a name with `/v` behind it
-pub trap_keyed : (line name r longer : List ℕ) (key : ℕ) → line ≡ name ++ (47 ∷ (118 ∷ r))
+pub IsKeyed-with_trap : (line name r longer : List ℕ) (key : ℕ) → line ≡ name ++ (47 ∷ (118 ∷ r))
     → longer ≡ take (length name + 2) line → IsKeyed name key → IsKeyed longer (with_byte (with_byte key 47) 118)
-trap_keyed line name r longer key e front (all, is) =
+IsKeyed-with_trap line name r longer key e front (all, is) =
     let same : longer ≡ name ++ (47 ∷ (118 ∷ [])) = front ∙ ap (λ l. take (length name + 2) l) e ∙ take_two name r in
     rw same (
       list_all-append goes_on_name name (47 ∷ (118 ∷ [])) ∙ rw all refl,

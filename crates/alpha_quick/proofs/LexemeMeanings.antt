@@ -67,17 +67,18 @@ if-insn m line i None h e = e
 if-insn m line i (Some j) (o, h, says) e = (o, h, says ∙ ap code (sym e))
 
 -- a lead that is an instruction
-pub whole_leads : (P : Stmt → Type 0) (l : InsnPrefix) (i : Form) → l.insn ≡ i → l.reaches ≡ false → P (code i)
+pub PrefixSays-insn : (P : Stmt → Type 0) (l : InsnPrefix) (i : Form) → l.insn ≡ i → l.reaches ≡ false → P (code i)
     → PrefixSays P l
-whole_leads P l i e whole h = (λ _. rw e h, λ reaches. absurd cc)
+PrefixSays-insn P l i e whole h = (λ _. rw e h, λ reaches. absurd cc)
 
 -- one that is to reach a label
-pub reaching_leads : (P : Stmt → Type 0) (l : InsnPrefix) (i : Form) (left : List ℕ) → l.insn ≡ i → l.reaches ≡ true
+pub PrefixSays-reaches : (P : Stmt → Type 0) (l : InsnPrefix) (i : Form) (left : List ℕ) → l.insn ≡ i → l.reaches ≡ true
     → l.left.now ≡ left → ((s : Stmt) → Reaches i left s → P s) → PrefixSays P l
-reaching_leads P l i left e reaches same h = (λ whole. absurd cc, λ _. rw (e, same) h)
+PrefixSays-reaches P l i left e reaches same h = (λ whole. absurd cc, λ _. rw (e, same) h)
 
-pub leads_as : (P Q : Stmt → Type 0) (l : InsnPrefix) → ((s : Stmt) → P s → Q s) → PrefixSays P l → PrefixSays Q l
-leads_as P Q l f (whole, reaches) = (λ e. f (code l.insn) (whole e), λ e s h. f s (reaches e s h))
+pub PrefixSays-weaker : (P Q : Stmt → Type 0) (l : InsnPrefix) → ((s : Stmt) → P s → Q s) → PrefixSays P l
+    → PrefixSays Q l
+PrefixSays-weaker P Q l f (whole, reaches) = (λ e. f (code l.insn) (whole e), λ e s h. f s (reaches e s h))
 
 -- a lead behind a register and its comma
 pub Says-first_register : (m : Mnemonic) (words : List ℕ) (ra : ℕ) (rest : List ℕ) (r : Option InsnPrefix)

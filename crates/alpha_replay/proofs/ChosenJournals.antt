@@ -8,7 +8,8 @@ use Rattle.alpha_imprecise.specs.Chosen.{Draw, draw, chosen, waited_after, Draws
 use Rattle.alpha_imprecise.specs.ChosenRun.{ChosenRun, advance_chosen_run, steps_of_chosen_run}
 use Rattle.alpha_imprecise.proofs.PendingTraps.{advance_chosen_run-going}
 use Rattle.alpha_imprecise.proofs.StepBounds.{steps-first}
-use Rattle.alpha_imprecise.proofs.EffectiveChoices.{next_step_result-by, over_by, left_behind, fed_split}
+use Rattle.alpha_imprecise.proofs.EffectiveChoices.{next_step_result-by, imprecise_step-over_input, left_behind}
+use Rattle.alpha_imprecise.proofs.EffectiveChoices.{Fed-split_event}
 use Rattle.alpha_imprecise.proofs.DrawnRuns.{chosen_run_with}
 use Rattle.alpha_replay.specs.Journaled.{advance_journaled, steps_journaled, GoesOver}
 
@@ -17,18 +18,19 @@ first_journaled : (n : ℕ) (g : Program) (k : ChosenRun) (m : ℕ)
 first_journaled n g k zero = refl
 first_journaled n g k (suc m) = ap (advance_journaled n g) (first_journaled n g k m)
 
-pub journaled_told : (n : ℕ) (g : Program) (hs : List ImpreciseEvent) (k : ChosenRun) (b : StepResult)
+pub steps_journaled-chosen_run : (n : ℕ) (g : Program) (hs : List ImpreciseEvent) (k : ChosenRun) (b : StepResult)
     (left rest : List ℕ)
     → RunsImprecisely g k.run.at hs b → Draws g k.run.at k.waited k.words hs rest → Fed k.run.left (seen hs) left
     → GoesOver n g k.run.units k.run.steps k.run.at hs
     → steps_journaled n g k (length hs) ≡ steps_of_chosen_run g k (length hs)
-journaled_told n g [] k b left rest run draws fed goes = refl
-journaled_told n g (h ∷ hs) k b left rest run draws fed goes =
+steps_journaled-chosen_run n g [] k b left rest run draws fed goes = refl
+steps_journaled-chosen_run n g (h ∷ hs) k b left rest run draws fed goes =
     let a = k.run.at in
     let d : Draw = draw g a.state a.pending k.waited k.words in
-    let gave = fed_split h (seen hs) k.run.left left fed in
+    let gave = Fed-split_event h (seen hs) k.run.left left fed in
     let to : chosen g a.state a.pending k.waited k.words k.run.left ≡ next_step_result g a h =
-    over_by g a d.choice h k.run.left draws.0 gave.0 ∙ sym (next_step_result-by g a d.choice h draws.0) in
+    imprecise_step-over_input g a d.choice h k.run.left draws.0 gave.0
+    ∙ sym (next_step_result-by g a d.choice h draws.0) in
     let next : ChosenRun = chosen_run_with (next_step_result g a h) (k.run.steps ++ h ∷ []) (left_behind h k.run.left)
     (k.run.units + unit_of a.pending) (waited_after h k.waited) (drop d.count k.words) (k.count + d.count) in
     let one : advance_chosen_run g k ≡ next =
@@ -44,5 +46,5 @@ journaled_told n g (h ∷ hs) k b left rest run draws fed goes =
     ap (λ (c : Bool). cond c k (advance_chosen_run g k)) goes.0 ∙ one in
     sym (first_journaled n g k (length hs))
     ∙ (ap (λ (j : ChosenRun). steps_journaled n g j (length hs)) open_still
-    ∙ (journaled_told n g hs next b left rest run.2 draws.1 gave.1 goes.1
+    ∙ (steps_journaled-chosen_run n g hs next b left rest run.2 draws.1 gave.1 goes.1
     ∙ (ap (λ (j : ChosenRun). steps_of_chosen_run g j (length hs)) (sym one) ∙ steps-first g k (length hs))))

@@ -47,13 +47,14 @@ one_item : (i : Item) → FitsItem i → All FitsItem (i ∷ [])
 one_item i h zero d below = h
 one_item i h (suc n) d below = absurd (omega arith)
 
-pub fits_closed : (items : List Item) (ones : ℕ) → ones < 2 ^ 32 → All FitsItem items
+pub FitsItem-closed_by : (items : List Item) (ones : ℕ) → ones < 2 ^ 32 → All FitsItem items
     → All FitsItem (closed_by items ones)
-fits_closed items zero low h = h
-fits_closed items (suc n) low h =
+FitsItem-closed_by items zero low h = h
+FitsItem-closed_by items (suc n) low h =
     All-append FitsItem items (Units (suc n) ∷ []) h (one_item (Units (suc n)) (omega arith, low))
 
-pub fits_item : (items : List Item) (ones : ℕ) (i : Item) → ones < 2 ^ 32 → All FitsItem items → FitsItem i
+pub FitsItem-closed_by_push : (items : List Item) (ones : ℕ) (i : Item) → ones < 2 ^ 32 → All FitsItem items
+    → FitsItem i
     → All FitsItem (closed_by items ones ++ i ∷ [])
-fits_item items ones i low h fits =
-    All-append FitsItem (closed_by items ones) (i ∷ []) (fits_closed items ones low h) (one_item i fits)
+FitsItem-closed_by_push items ones i low h fits =
+    All-append FitsItem (closed_by items ones) (i ∷ []) (FitsItem-closed_by items ones low h) (one_item i fits)

@@ -8,7 +8,7 @@ use Rattle.std.specs.Option.{option_and_then}
 use Rattle.alpha_seq.specs.State.{Program}
 use Rattle.alpha_seq.specs.Step.{next_class}
 use Rattle.alpha_seq.proofs.InputRequests.{drop-taken}
-use Rattle.alpha_seq.proofs.InputPrefixes.{take_front}
+use Rattle.alpha_seq.proofs.InputPrefixes.{take-taken_prefix}
 use Rattle.alpha_imprecise.specs.StepResult.{StepResult}
 use Rattle.alpha_imprecise.specs.Step.{imprecise_step}
 use Rattle.alpha_imprecise.specs.Run.{finished, given_to}
@@ -53,7 +53,7 @@ module _ (g : Program) where
           let front = take f.count xs ++ b in
           let again : imprecise_step g s p.run.at.pending (choice_of m) front ≡ w =
           f.only front
-          ∙ (ap (imprecise_step g s p.run.at.pending (choice_of m)) (sym (take_front f.count xs b r (sym rest)))
+          ∙ (ap (imprecise_step g s p.run.at.pending (choice_of m)) (sym (take-taken_prefix f.count xs b r (sym rest)))
           ∙ sym (f.only xs)) in
           let leaves : drop (length (given_to w.last_event)) front ≡ b =
           ap (λ (l : List ℕ). drop (length l) front) gave ∙ drop-append_seam (take f.count xs) b in (

@@ -21,7 +21,7 @@ use Rattle.alpha_imprecise.specs.ChosenRun.{end_of_imprecise_event, lost_trap}
 use Rattle.alpha_imprecise.specs.Restart.{IsRestartable}
 use Rattle.alpha_imprecise.proofs.ShownRuns.{choices_alike}
 use Rattle.alpha_imprecise.proofs.ImpreciseSequence.{seen_steps-append, RunsImprecisely-append, RunsImprecisely-one}
-use Rattle.alpha_imprecise.proofs.ImpreciseSequence.{units_of_steps-append, fed-one}
+use Rattle.alpha_imprecise.proofs.ImpreciseSequence.{units_of_steps-append, Fed-next_event}
 use Rattle.alpha_replay.specs.declared.ending.Ending.{Ending}
 use Rattle.alpha_replay.specs.declared.ending.Ending.TheVariants as endings
 use Rattle.alpha_replay.specs.declared.item.Item.{Item}
@@ -94,7 +94,7 @@ move_leads g m p q e =
       steps = h ∷ [];
       runs = RunsImprecisely-one g a (choice_of m) p.run.left did.0;
       all = refl;
-      fed = fed-one g a (choice_of m) p.run.left;
+      fed = Fed-next_event g a (choice_of m) p.run.left;
       counted = omega arith;
       used = ap (λ (k : ℕ). p.run.units + k) unit;
     })
@@ -157,9 +157,9 @@ listed_leads g n (i ∷ items) p q e =
     by rest None f h = absurd cc
     by rest (Some r) f h = leads_then g (item_units i) (units_of items) p r q (item_leads g i p r f) (rest r h)
 
-pub listed_is : (g : Program) (input : List ℕ) (items : List Item) (q : Played) → listed g input items ≡ Ok q
+pub listed-RunsOver : (g : Program) (input : List ℕ) (items : List Item) (q : Played) → listed g input items ≡ Ok q
     → RunsOver g (start g) input q.run
-listed_is g input items q e =
+listed-RunsOver g input items q e =
     let h = listed_leads g 0 items (unplayed (start g) input) q e in
     record {
       runs =
@@ -249,8 +249,8 @@ answer_ok : (o : Option ReplayFault) (a r : Replayed) → answer_by o a ≡ Ok r
 answer_ok None a r e = (refl, (cc))
 answer_ok (Some fault) a r e = absurd cc
 
-pub replayed_is : (image : Image) (p : Parts) (r : Replayed) → replayed image p ≡ Ok r → IsRun image p r.units
-replayed_is image p r e = by (listed (program_by image p) p.input p.items) refl e
+pub replayed-IsRun : (image : Image) (p : Parts) (r : Replayed) → replayed image p ≡ Ok r → IsRun image p r.units
+replayed-IsRun image p r e = by (listed (program_by image p) p.input p.items) refl e
   where
     by : (o : Result Played ℕ) → listed (program_by image p) p.input p.items ≡ o → answered p o ≡ Ok r
         → IsRun image p r.units
@@ -261,7 +261,7 @@ replayed_is image p r e = by (listed (program_by image p) p.input p.items) refl 
         let same : q.run.units ≡ r.units = ap (λ (a : Replayed). a.units) answer.1 in
         record {
           run = q.run;
-          over = listed_is (program_by image p) p.input p.items q f;
+          over = listed-RunsOver (program_by image p) p.input p.items q f;
           ends = fine.ends;
           used = record { settled = fine.settled; most = omega (arith, same); full = λ going. same };
           units_are = same;
@@ -281,10 +281,10 @@ ends_alike (Waited adds value bytes) e = refl
 ends_alike (Reported at) e = refl
 ends_alike (Lost pc mask) e = absurd cc
 
-pub restarted_is : (image : Image) (p : Parts) (r : Replayed) → replayed image p ≡ Ok r → IsRestartable image
+pub replayed-IsSequential : (image : Image) (p : Parts) (r : Replayed) → replayed image p ≡ Ok r → IsRestartable image
     → IsSequential image p r.units
-restarted_is image p r e h =
-    let run = replayed_is image p r e in
+replayed-IsSequential image p r e h =
+    let run = replayed-IsRun image p r e in
     let same = choices_alike image h p.completion p.input run.run r.units run.over run.used in
     record {
       ends = ap ending_at (sym same.end) ∙ (ends_alike run.run.at.last_event same.lost ∙ run.ends);

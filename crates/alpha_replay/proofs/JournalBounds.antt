@@ -99,19 +99,19 @@ module _ (n : ℕ) (g : Program) (from : ChosenRun) where
 -- ---- from a state with nothing pending
 
 -- there is a place where the run stops
-pub some_place : (n : ℕ) (g : Program) (s : State) (input words : List ℕ)
+pub IsJournaled-exists : (n : ℕ) (g : Program) (s : State) (input words : List ℕ)
     → (k : ChosenRun) × IsJournaled n g (begun s input None 0 words) k
-some_place n g s input words =
+IsJournaled-exists n g s input words =
     let from = begun s input None 0 words in
     let within = IsWithin-nothing_pending g from n refl in
     IsJournaled-within_used n g from within.steps
     (subst (λ (k : ChosenRun). HasUsed n k.run.units k.run.at) (sym within.reached) (made_is g from n refl refl))
 
 -- on its way there it has used no more than its units, and has drawn no more words than these
-pub few_steps : (n : ℕ) (g : Program) (s : State) (input words : List ℕ) (m : ℕ)
+pub steps_journaled-bounds : (n : ℕ) (g : Program) (s : State) (input words : List ℕ) (m : ℕ)
     → ((steps_journaled n g (begun s input None 0 words) m).run.units ≤ n)
     × ((steps_journaled n g (begun s input None 0 words) m).count ≤ most_words n)
-few_steps n g s input words m =
+steps_journaled-bounds n g s input words m =
     let from = begun s input None 0 words in
     let k = steps_journaled n g from m in
     let units : k.run.units ≤ n = units_most n g from m (omega arith) in
@@ -121,8 +121,8 @@ few_steps n g s input words m =
     let draws = draws_most g k.run.steps (imprecise_start s) k.run.at 0 words k.words refl is.runs is.draws in
     (units, omega (arith, draws, is.count, is.used, units))
 
-pub few_words : (n : ℕ) (g : Program) (s : State) (input words : List ℕ) (k : ChosenRun)
+pub IsJournaled-bounds : (n : ℕ) (g : Program) (s : State) (input words : List ℕ) (k : ChosenRun)
     → IsJournaled n g (begun s input None 0 words) k → (k.run.units ≤ n) × (k.count ≤ most_words n)
-few_words n g s input words k is =
+IsJournaled-bounds n g s input words k is =
     subst (λ (j : ChosenRun). (j.run.units ≤ n) × (j.count ≤ most_words n)) is.reached
-    (few_steps n g s input words is.steps)
+    (steps_journaled-bounds n g s input words is.steps)

@@ -44,12 +44,13 @@ use Rattle.alpha_replay.specs.JournalEnd.{IsJournaledAt}
 use Rattle.alpha_replay.specs.Recorder.{recording, recorded_after, outcome}
 use Rattle.alpha_replay.specs.Replay.{ending_of, ending_seen}
 use Rattle.alpha_replay.specs.BuilderState.{BuilderState, builder_state, builder_fits, builder_after}
-use Rattle.alpha_replay.proofs.ChosenJournals.{journaled_told}
-use Rattle.alpha_replay.proofs.MovesOfSteps.{said_last}
+use Rattle.alpha_replay.proofs.ChosenJournals.{steps_journaled-chosen_run}
+use Rattle.alpha_replay.proofs.MovesOfSteps.{IsLast-shown_as}
 use Rattle.alpha_replay.proofs.RecorderNotes.{after_fits, unstopped_fit, fit_unstopped, lines_same}
-use Rattle.alpha_replay.proofs.RecordedSteps.{builder_of, builder_more, built_on, built_over, AllFit, fits_over}
+use Rattle.alpha_replay.proofs.RecordedSteps.{builder_of, builder_more, built_on, built_over, AllFit}
+use Rattle.alpha_replay.proofs.RecordedSteps.{builder_fits-built_over}
 use Rattle.alpha_replay.proofs.RecordedSteps.{builder_over}
-use Rattle.alpha_replay.proofs.RecordedSteps.{going_row-GoesOver, goes_at, goes-last}
+use Rattle.alpha_replay.proofs.RecordedSteps.{going_row-GoesOver, stops_at-going, goes-last}
 use Rattle.alpha_replay.proofs.LongerRuns.{goes_past}
 
 -- the recorder before the first step
@@ -129,7 +130,7 @@ Records-spent n left old new to before after input out sink least one =
           ap (λ (b : Bool). b || is_none (trap_in new.pending)) on
           ∙ ap (λ (o : Option Pending). is_none (trap_in o)) none.0;
       full = λ e. full;
-      within = fits_over empty_builder ps refl all;
+      within = builder_fits-built_over empty_builder ps refl all;
       is = ap (λ (e : Ending). parts old.machine.completion e t.taken t.put (closed t.gathered)) (sym (going_as h on).1)
           ∙ ap (λ (x : BuilderState). parts old.machine.completion (ending_of h) x.taken x.put (closed x.gathered))
           tape;
@@ -164,9 +165,10 @@ module _ (n : ℕ) (old mid new : ImpreciseState) (ps : List StepLabel) (p : Ste
       ≡ false
   prefix_not_stopped =
       let ran = row_ran (program_of old.machine) false ps (Precisely Went) old mid refl refl row going in
-      goes_at n (units (program_of old.machine) (moment_at old) hs) old.machine.completion hs
+      stops_at-going n (units (program_of old.machine) (moment_at old) hs) old.machine.completion hs
       (last_imprecise_event old mid (Precisely Went) ps row) mid
-      (subst (λ (t : BuilderState). builder_fits t ≡ true) builder_before (fits_over empty_builder ps refl all))
+      (subst (λ (t : BuilderState). builder_fits t ≡ true) builder_before
+      (builder_fits-built_over empty_builder ps refl all))
       (finished-last_imprecise_event old mid (Precisely Went) refl ps row going)
       (omega (arith, ran.used, is.step.units, room))
 
@@ -199,7 +201,7 @@ module _ (n : ℕ) (old mid new : ImpreciseState) (ps : List StepLabel) (p : Ste
       ≡ journal_of old.machine.completion last (hs ++ last ∷ [])
   journal_all =
       ap (λ (e : Ending). parts old.machine.completion e with_last.taken with_last.put (closed with_last.gathered))
-      (said_last p.event is.step.passed last is.step.event).ending
+      (IsLast-shown_as p.event is.step.passed last is.step.event).ending
       ∙ ap (λ (t : BuilderState). parts old.machine.completion (ending_of last) t.taken t.put (closed t.gathered))
       builder_with
 
@@ -300,7 +302,7 @@ module _ (fault : Fault) (n : ℕ) {rest : ℕ} (old new : ImpreciseState) (befo
       (sym (append_assoc cut.words cut.label.words coming)) (cut.draws (cut.label.words ++ coming)) in
       let here = drawn_told g cut.steps from (step_result_of cut.mid cut.last) first.0
       (cut.label.words ++ coming) cut.runs drew first.1 in
-      let same = journaled_told n g cut.steps from (step_result_of cut.mid cut.last) first.0
+      let same = steps_journaled-chosen_run n g cut.steps from (step_result_of cut.mid cut.last) first.0
       (cut.label.words ++ coming) cut.runs drew first.1 over in
       let none : units g a cut.steps ≡ 0 + units g a cut.steps = omega arith in
       let open_still : has_stopped n g.completion (steps_journaled n g from m) ≡ false =
@@ -349,12 +351,12 @@ cut_short fault n left old new before after input out sink one =
 
 -- ---- by the answer
 
-pub made_ok : (last : Option SeenEvent) (n left : ℕ) (old new : ImpreciseState)
+pub MakesJournal-ok : (last : Option SeenEvent) (n left : ℕ) (old new : ImpreciseState)
     (from to : Recorder) (before after : Oracle) (input : Drawn) (out sink : SinkChange)
     → from ≡ first_recorder
     → RunsTo last ImpreciseStep imprecise_units recording n left old new from to before after input out sink
     → made.MakesJournal (outcome last old.machine.completion to) n old new before after input out sink
-made_ok last n left old new from to before after input out sink start did =
+MakesJournal-ok last n left old new from to before after input out sink start did =
     by last (subst (λ (r : Recorder).
     RunsTo last ImpreciseStep imprecise_units recording n left old new r to before after input out sink) start did)
   where
@@ -427,13 +429,14 @@ whole_of n last journal old new before after input out sink r =
       full = λ going. (let all = r.full going in omega arith);
     }
 
-pub journal_found : (e : JournalEnd) (n : ℕ) (old new : ImpreciseState) (before after : Oracle) (input : Drawn)
+pub JournalLosesNone-never_loses : (e : JournalEnd) (n : ℕ) (old new : ImpreciseState) (before after : Oracle)
+    (input : Drawn)
     (out sink : SinkChange)
     → made.MakesJournal e n old new before after input out sink → old.pending ≡ None → NeverLoses old.machine.image
     → made.JournalLosesNone e
-journal_found (ends.Made last journal) n old new before after input out sink did calm never =
+JournalLosesNone-never_loses (ends.Made last journal) n old new before after input out sink did calm never =
     loses_none last n (n - did.stops.units) false old new before after input out sink
     (whole_of n last journal old new before after input out sink did) calm never
-journal_found (ends.Failed fault) n old new before after input out sink did calm never = tt
-journal_found ends.Full n old new before after input out sink did calm never = tt
-journal_found ends.NoMemory n old new before after input out sink did calm never = tt
+JournalLosesNone-never_loses (ends.Failed fault) n old new before after input out sink did calm never = tt
+JournalLosesNone-never_loses ends.Full n old new before after input out sink did calm never = tt
+JournalLosesNone-never_loses ends.NoMemory n old new before after input out sink did calm never = tt

@@ -288,8 +288,8 @@ journal_parts_of-spelling p good =
       take_at p.output (flat_map item_bytes p.items) (length p.output) refl,
     ) refl)
 
-pub one_journal : (p q : Parts) → IsJournal p → IsJournal q → spelling p ≡ spelling q → p ≡ q
-one_journal p q good other e =
+pub journal_spelling-injective : (p q : Parts) → IsJournal p → IsJournal q → spelling p ≡ spelling q → p ≡ q
+journal_spelling-injective p q good other e =
     sym (journal_parts_of-spelling p good) ∙ (ap parts_of e ∙ journal_parts_of-spelling q other)
 
 -- ---- refusals

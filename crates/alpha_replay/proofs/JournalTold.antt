@@ -9,13 +9,13 @@ use Rattle.alpha_seq.specs.Start.{start}
 use Rattle.alpha_seq.specs.Run.{output, taken, notes as notes_of}
 use Rattle.alpha_seq.specs.Machine.{program_of}
 use Rattle.alpha_seq.specs.Devices.{Drawn}
-use Rattle.alpha_seq.proofs.InputPrefixes.{fed_all}
+use Rattle.alpha_seq.proofs.InputPrefixes.{Fed-taken_append}
 use Rattle.alpha_imprecise.specs.ChosenRun.{ChosenRun, begun, first_words, most_words, shown_chosen_run}
 use Rattle.alpha_imprecise.specs.StepResult.{ImpreciseEvent}
 use Rattle.alpha_imprecise.specs.Run.{seen, units}
 use Rattle.alpha_imprecise.specs.Oracle.{Oracle}
 use Rattle.alpha_imprecise.specs.ImpreciseState.{ImpreciseState, trap_in, waited_in, step_result_of, begun_at, IsFresh}
-use Rattle.alpha_imprecise.proofs.FreshRuns.{begun_fresh, told_starts}
+use Rattle.alpha_imprecise.proofs.FreshRuns.{begun_fresh, OracleDraws-Starts}
 use Rattle.alpha_imprecise.proofs.WordDraws.{words_most}
 use Rattle.alpha_imprecise.proofs.DrawnRuns.{drawn_told}
 use Rattle.alpha_run.specs.ImpreciseRan.{moment_at}
@@ -28,7 +28,7 @@ use Rattle.alpha_replay.specs.Journaled.{IsJournaled}
 use Rattle.alpha_run.specs.Shows.{ShowsImprecisePart}
 use Rattle.alpha_replay.specs.JournalEnd.{IsJournaledAt, JournalStops, Records, IsFull, IsShort, MakesJournal, StopsAt}
 use Rattle.alpha_replay.specs.JournalEnd.{IsRecorded, IsPast, Shows, JournalTold}
-use Rattle.alpha_replay.proofs.ChosenJournals.{journaled_told}
+use Rattle.alpha_replay.proofs.ChosenJournals.{steps_journaled-chosen_run}
 
 -- whatever words come behind those that were drawn
 pub stops_told : (n : ℕ) (last : ImpreciseEvent) (old new : ImpreciseState) (before after : Oracle) (input : Drawn)
@@ -43,7 +43,7 @@ stops_told n last old new before after input out notes s bytes coming tells =
     let from = begun_at old bytes (ran.words ++ coming) in
     let here = drawn_told g ran.steps from (step_result_of new last) fed.0 coming ran.runs (ran.draws coming) fed.1 in
     let same =
-    journaled_told n g ran.steps from (step_result_of new last) fed.0 coming ran.runs
+    steps_journaled-chosen_run n g ran.steps from (step_result_of new last) fed.0 coming ran.runs
     (ran.draws coming) fed.1 s.goes_over in
     let k : ChosenRun = steps_journaled n g from (length ran.steps) in
     let is = same ∙ here.1 in
@@ -54,7 +54,7 @@ stops_told n last old new before after input out notes s bytes coming tells =
       record { steps = length ran.steps; reached = refl; stopped = done },
       ap (λ (j : ChosenRun). j.run.steps) is,
       subst (λ (j : ChosenRun). bytes ≡ taken (seen j.run.steps) ++ j.run.left) (sym is)
-          (sym (fed_all (seen ran.steps) bytes fed.0 fed.1)),
+          (sym (Fed-taken_append (seen ran.steps) bytes fed.0 fed.1)),
     )
 
 module _ (n : ℕ) (bytes : List ℕ) (ahead : ℕ → ℕ) (old new : ImpreciseState) (before after : Oracle) (input : Drawn)
@@ -78,12 +78,13 @@ module _ (n : ℕ) (bytes : List ℕ) (ahead : ℕ → ℕ) (old new : Imprecise
       let low = words_most g ran.steps (moment_at old) (step_result_of new last) (waited_in old.pending) ran.words
       (ap trap_in fresh.nothing_pending) ran.runs ran.draws in
       let few : length ran.words ≤ most_words n = omega (arith, low, ran.used, s.most) in
-      let list = told_starts before after ahead ran.words (most_words n) told ran.drew few in
+      let list = OracleDraws-Starts before after ahead ran.words (most_words n) told ran.drew few in
       let from = begun_at old bytes (ran.words ++ list.coming) in
       let drew = ran.draws list.coming in
       let here = drawn_told g ran.steps from (step_result_of new last) fed.0 list.coming ran.runs drew fed.1 in
       let same =
-      journaled_told n g ran.steps from (step_result_of new last) fed.0 list.coming ran.runs drew fed.1 s.goes_over in
+      steps_journaled-chosen_run n g ran.steps from
+      (step_result_of new last) fed.0 list.coming ran.runs drew fed.1 s.goes_over in
       let k : ChosenRun = steps_journaled n g from (length ran.steps) in
       let is = same ∙ here.1 in
       let used : s.units ≡ 0 + units g (moment_at old) ran.steps = omega (arith, ran.used) in
@@ -137,7 +138,7 @@ module _ (n : ℕ) (bytes : List ℕ) (ahead : ℕ → ℕ) (old new : Imprecise
   journal_prefixes fault s k is =
       let few = few_cut fault n false old before after input out notes s.cut fresh.nothing_pending in
       let words = s.cut.words ++ s.cut.label.words in
-      let list = told_starts before after ahead words (most_words n) told s.cut.drew few in
+      let list = OracleDraws-Starts before after ahead words (most_words n) told s.cut.drew few in
       s.fronts bytes list.coming k tells
       (subst (λ (f : ChosenRun). IsJournaled n g f k)
       (ap (λ l. begun (start g) bytes None 0 l) list.is ∙ sym (begun_fresh old bytes (words ++ list.coming) fresh)) is)

@@ -9,7 +9,7 @@ use Rattle.alpha_image.specs.FirstOf.{unless, first_of}
 use Rattle.alpha_seq.specs.State.{Program}
 use Rattle.alpha_seq.specs.Start.{start}
 use Rattle.alpha_seq.specs.Run.{taken, output}
-use Rattle.alpha_seq.proofs.InputPrefixes.{fed_all}
+use Rattle.alpha_seq.proofs.InputPrefixes.{Fed-taken_append}
 use Rattle.alpha_imprecise.specs.Run.{seen, ImpreciseRun, finished, imprecise_start}
 use Rattle.alpha_imprecise.specs.ChosenRun.{ChosenRun, begun}
 use Rattle.alpha_imprecise.proofs.DrawnRuns.{IsMade, steps-chosen_run, begun-chosen_run}
@@ -24,7 +24,7 @@ use Rattle.alpha_replay.specs.Journaled.{journal_at, is_within, IsJournaled}
 use Rattle.alpha_replay.specs.Listed.{played_over, unplayed, listed}
 use Rattle.alpha_replay.specs.Replay.{ending_of, same_ending, ends_as, reports_of, run_fault, answer_by, answered}
 use Rattle.alpha_replay.specs.Replay.{replayed}
-use Rattle.alpha_replay.proofs.JournaledRuns.{played_in, ListsRun, lists_closed, steps_list, journaled_run}
+use Rattle.alpha_replay.proofs.JournaledRuns.{played_in, ListsRun, ListsRun-closed, steps_list, journaled_run}
 use Rattle.alpha_replay.proofs.InputPrefixes.{list_feeds}
 use Rattle.std.proofs.Math.Seq.{take-append_seam}
 use Rattle.std.proofs.lemmas.List.{length-append}
@@ -82,7 +82,7 @@ journaled_lists n g input words k is =
     let from = begun (start g) input None 0 words in
     let none : ListsRun g (played_in from) no_moves (played_in from) =
     record { mid = played_in from; listed = λ m. refl; ones = refl } in
-    let h = lists_closed g (played_in from) _ _ (steps_list n g from is.steps none) 0 in
+    let h = ListsRun-closed g (played_in from) _ _ (steps_list n g from is.steps none) 0 in
     subst (λ (x : ChosenRun). listed g input (items_of x.run.steps) ≡ Ok (played_in x)) is.reached h
 
 taken_is : (xs rest : List ℕ) → take (length (xs ++ rest) - length rest) (xs ++ rest) ≡ xs
@@ -107,7 +107,7 @@ module _ (n : ℕ) (image : Image) (completion : Completion) (input words : List
       let run = journaled_run n g from k is in
       let made = subst (IsMade g (imprecise_start (start g)) input words 0) (sym run.1) (steps-chosen_run g
       (imprecise_start (start g)) input words 0 from run.0 (begun-chosen_run g (start g) input words None 0)) in
-      fed_all (seen k.run.steps) input k.run.left made.fed
+      Fed-taken_append (seen k.run.steps) input k.run.left made.fed
 
   -- the items list the run over what it took
   pub listed_taken : IsJournaled n g (begun (start g) input None 0 words) k

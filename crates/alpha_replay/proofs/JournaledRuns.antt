@@ -146,9 +146,9 @@ played_in k = record { run = k.run; waited = k.waited }
 abbrev next_chosen : Program → ChosenRun → StepResult
 next_chosen g k = chosen g k.run.at.state k.run.at.pending k.waited k.words k.run.left
 
-pub making_moves : (g : Program) (k : ChosenRun) → finished k.run.at.last_event ≡ false
+pub move-advance_chosen_run : (g : Program) (k : ChosenRun) → finished k.run.at.last_event ≡ false
     → move g (played_in k) (move_of (next_chosen g k).last_event) ≡ Some (played_in (advance_chosen_run g k))
-making_moves g k going =
+move-advance_chosen_run g k going =
     let o = next_class g k.run.at.state.pc in
     let a = k.run.at in
     let d = draw g a.state a.pending k.waited k.words in
@@ -191,9 +191,9 @@ listed_more g n [] i p q r e f =
 listed_more g n (j ∷ is) i p q r e f = then_ok g n is i (item g j p) q r (λ y h. listed_more g (n + 1) is i y q r h f) e
 
 -- as items alone
-pub lists_closed : (g : Program) (p q : Played) (k : GatheredItems) → ListsRun g p k q → (n : ℕ)
+pub ListsRun-closed : (g : Program) (p q : Played) (k : GatheredItems) → ListsRun g p k q → (n : ℕ)
     → listed_from g n (closed k) p ≡ Ok q
-lists_closed g p q k h n = by k.ones h.ones
+ListsRun-closed g p q k h n = by k.ones h.ones
   where
     by : (ones : ℕ) → units g ones h.mid ≡ Some q → listed_from g n (closed_by k.items ones) p ≡ Ok q
     by zero e = let same : h.mid ≡ q = cc in h.listed n ∙ ap (λ (x : Played). Ok x) same
@@ -203,22 +203,23 @@ lists_item : (g : Program) (p q r : Played) (k : GatheredItems) (i : Item) → L
     → ListsRun g p (with_item k i) r
 lists_item g p q r k i h e = record {
   mid = r;
-  listed = λ n. listed_more g n (closed k) i p q r (lists_closed g p q k h n) e;
+  listed = λ n. listed_more g n (closed k) i p q r (ListsRun-closed g p q k h n) e;
   ones = refl;
 }
 
-pub lists_more : (g : Program) (p q r : Played) (k : GatheredItems) (m : Move) → ListsRun g p k q → move g q m ≡ Some r
+pub ListsRun-next_move : (g : Program) (p q r : Played) (k : GatheredItems) (m : Move) → ListsRun g p k q
+    → move g q m ≡ Some r
     → ListsRun g p (gathered_by k m) r
-lists_more g p q r k One h e = record {
+ListsRun-next_move g p q r k One h e = record {
   mid = h.mid;
   listed = h.listed;
   ones =
       ap (λ (n : ℕ). units g n h.mid) (add-one k.ones)
       ∙ (ap (λ (x : Option Played). option_and_then (λ (y : Played). move g y One) x) h.ones ∙ e);
 }
-lists_more g p q r k (Trips value) h e = lists_item g p q r k (items.Trigger value) h e
-lists_more g p q r k (Waits adds value) h e = lists_item g p q r k (items.Wait adds value) h e
-lists_more g p q r k Reports h e = lists_item g p q r k items.Report h e
+ListsRun-next_move g p q r k (Trips value) h e = lists_item g p q r k (items.Trigger value) h e
+ListsRun-next_move g p q r k (Waits adds value) h e = lists_item g p q r k (items.Wait adds value) h e
+ListsRun-next_move g p q r k Reports h e = lists_item g p q r k items.Report h e
 
 -- ---- so many steps
 
@@ -244,8 +245,8 @@ module _ (n : ℕ) (g : Program) (from : ChosenRun) where
           ap (λ (j : ChosenRun). j.run.steps) (advance_chosen_run-going g k going) in
           subst (λ (x : GatheredItems). ListsRun g (played_in from) x (played_in (advance_chosen_run g k)))
           (sym (ap (gathered_from no_moves) steps ∙ gathered-append no_moves k.run.steps (next.last_event ∷ [])))
-          (lists_more g (played_in from) (played_in k) (played_in (advance_chosen_run g k))
-          (gathered_from no_moves k.run.steps) (move_of next.last_event) h (making_moves g k going))
+          (ListsRun-next_move g (played_in from) (played_in k) (played_in (advance_chosen_run g k))
+          (gathered_from no_moves k.run.steps) (move_of next.last_event) h (move-advance_chosen_run g k going))
 
   pub steps_list : (steps : ℕ) → ListsRun g (played_in from) (gathered_from no_moves from.run.steps) (played_in from)
       → ListsRun g (played_in from) (gathered_from no_moves (steps_journaled n g from steps).run.steps)

@@ -8,7 +8,7 @@ use Rattle.alpha_imprecise.specs.StepResult.{ImpreciseEvent, StepResult}
 use Rattle.alpha_imprecise.specs.Run.{finished, next_step_result, RunsImprecisely, unit_of, units}
 use Rattle.alpha_imprecise.specs.Used.{HasUsed}
 use Rattle.alpha_imprecise.specs.Chosen.{draw, waited_after, Draws}
-use Rattle.alpha_run.proofs.ImpreciseShown.{more_steps}
+use Rattle.alpha_run.proofs.ImpreciseShown.{FurtherDraws-step}
 use Rattle.alpha_replay.specs.Journaled.{journal_of, is_within, stops_at, GoesOver}
 use Rattle.alpha_replay.proofs.JournalBounds.{stop_by, or_false-last, units-room}
 
@@ -140,7 +140,7 @@ pub EndsJournal-some : (n : ℕ) (g : Program) (used : ℕ) (before : List Impre
     (a : StepResult) (waited : ℕ) (words : List ℕ)
     → used ≤ n → EndsJournal n g used before a waited words
 EndsJournal-some n g used before a waited words most =
-    let more = more_steps g (n - used) a.state a.pending a.last_event waited words in
+    let more = FurtherDraws-step g (n - used) a.state a.pending a.last_event waited words in
     let all : HasUsed n (used + units g a more.steps) more.at = record {
       settled = more.used.settled;
       most = omega (arith, more.used.most, most);

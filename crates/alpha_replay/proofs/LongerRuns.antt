@@ -5,7 +5,7 @@ use Rattle.std.proofs.lemmas.Bool.{cases_lt}
 use Rattle.std.proofs.Math.Nat.{eq-or-lt_of_le}
 use Rattle.alpha_seq.specs.State.{Program}
 use Rattle.alpha_imprecise.specs.ChosenRun.{ChosenRun, advance_chosen_run}
-use Rattle.alpha_run.proofs.ImpreciseShown.{Begins, begins_then, advance_begins}
+use Rattle.alpha_run.proofs.ImpreciseShown.{Begins, Begins-trans, Begins-advance_chosen_run}
 use Rattle.alpha_replay.specs.Journaled.{has_stopped, advance_journaled, steps_journaled, IsJournaled}
 use Rattle.alpha_replay.proofs.JournaledRuns.{stays_stopped}
 
@@ -18,7 +18,7 @@ module _ (n : ℕ) (g : Program) (from : ChosenRun) where
     where
       by : (b : Bool) → Begins k (cond b k (advance_chosen_run g k))
       by true = begins_same k
-      by false = advance_begins g k
+      by false = Begins-advance_chosen_run g k
 
   steps_begin : (a b : ℕ) → a ≤ b → Begins (steps_journaled n g from a) (steps_journaled n g from b)
   steps_begin a zero low =
@@ -29,7 +29,7 @@ module _ (n : ℕ) (g : Program) (from : ChosenRun) where
       (λ (same : a ≡ suc b). subst (λ (j : ℕ). Begins (steps_journaled n g from j) (steps_journaled n g from (suc b)))
       (sym same) (begins_same (steps_journaled n g from (suc b))))
       (λ (below : a < suc b).
-      begins_then (steps_journaled n g from a) (steps_journaled n g from b) (steps_journaled n g from (suc b))
+      Begins-trans (steps_journaled n g from a) (steps_journaled n g from b) (steps_journaled n g from (suc b))
       (steps_begin a b (omega (arith, below))) (one_more (steps_journaled n g from b)))
       (eq-or-lt_of_le low)
 

@@ -25,11 +25,11 @@ use Rattle.alpha_replay.specs.Moves.{choice_of, move_applies}
 use Rattle.alpha_replay.specs.Listed.{Played, played_by, move, units, item, listed_then, listed_from}
 use Rattle.alpha_replay.specs.ReplayEffect.{Place, place, program_at, IsLast, played_at, ReplayEffect, Fails, Plays}
 use Rattle.alpha_replay.specs.ReplayEffect.{StopsAt, Moved}
-use Rattle.alpha_imprecise.proofs.EffectiveChoices.{asked_for, left_behind, over_by, fed_split}
+use Rattle.alpha_imprecise.proofs.EffectiveChoices.{asked_for, left_behind, imprecise_step-over_input, Fed-split_event}
 use Rattle.alpha_imprecise.proofs.ImpreciseSequence.{seen_steps-append}
 use Rattle.alpha_run.proofs.StepRows.{output-append}
 use Rattle.std.proofs.lemmas.List.{length-drop}
-use Rattle.alpha_replay.proofs.MovesOfSteps.{MoveFits, given-fits, said_last}
+use Rattle.alpha_replay.proofs.MovesOfSteps.{MoveFits, given-fits, IsLast-shown_as}
 use Rattle.alpha_replay.proofs.StepBytes.{passed-took}
 
 -- ---- one move
@@ -84,19 +84,20 @@ module _ (m : Move) (old : ImpreciseState) (input : List ℕ) (from : Cursor) wh
         ∙ tested_suits (finished h) (moved_here h before n)
 
     pub last_so : IsLast last went
-    last_so = said_last last moved.is.passed went (sym moved.event_is ∙ moved.is.event)
+    last_so = IsLast-shown_as last moved.is.passed went (sym moved.event_is ∙ moved.is.event)
 
     -- what it was given, and what it left
     answer_is : (given_to went ≡ take (asked_for went) input) × (left_behind went input ≡ left)
     answer_is =
         let fed : Fed input (seen_of went ++ []) left =
         subst (λ (l : List Happened). Fed input l left) (moved.is.seen ∙ sym (append-nil (seen_of went))) moved.fed in
-        let split = fed_split went [] input left fed in (split.0, split.1)
+        let split = Fed-split_event went [] input left fed in (split.0, split.1)
 
     -- the step of the definition
     steps_so : imprecise_step g (state_of old.machine) (trap_in old.pending) c input ≡ step_result_of new went
     steps_so =
-        over_by g (step_result_of old went) c went input (ap (λ (x : StepResult). x.last_event) moved.is.is) answer_is.0
+        imprecise_step-over_input g (step_result_of old went) c went input
+        (ap (λ (x : StepResult). x.last_event) moved.is.is) answer_is.0
         ∙ moved.is.is
 
     -- what was put stands in memory

@@ -61,6 +61,8 @@ Causes-never Input a b cause = absurd (let rose = cause.source in omega arith)
 Causes-never Output a b cause = absurd (let rose = cause.sink in omega arith)
 Causes-never Notes a b cause = absurd (let rose = cause.lines in omega arith)
 
-pub never_breaks : (fault : Fault) (old new : ImpreciseState) (before after : FixedChoice) (a b : SureSourceState)
+pub StepFaultedByChoice-never : (fault : Fault) (old new : ImpreciseState) (before after : FixedChoice)
+    (a b : SureSourceState)
     → StepFaultedByChoice gives_pick gives_value fault old new before after (sure_input a b) silent_sink → ⊥
-never_breaks fault old new before after a b broken = Causes-never fault a b (broken.effect.cause silent_sink refl)
+StepFaultedByChoice-never fault old new before after a b broken =
+    Causes-never fault a b (broken.effect.cause silent_sink refl)

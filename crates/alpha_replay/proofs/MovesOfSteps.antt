@@ -40,8 +40,9 @@ ending_line passed (Waited adds value bytes) = refl
 ending_line passed (Reported at) = refl
 ending_line passed (Lost pc mask) = refl
 
-pub said_last : (event : SeenEvent) (passed : Passed) (h : ImpreciseEvent) → event ≡ shown_as passed h → IsLast event h
-said_last event passed h e = record {
+pub IsLast-shown_as : (event : SeenEvent) (passed : Passed) (h : ImpreciseEvent) → event ≡ shown_as passed h
+    → IsLast event h
+IsLast-shown_as event passed h e = record {
   over = ap is_over e ∙ over-shown passed h;
   ending = ap ending_seen e ∙ ending_line passed h;
 }

@@ -65,16 +65,17 @@ first_difference-too_short : (at : ℕ) (rest : List ℕ) → 0 < length rest �
 first_difference-too_short at [] some = absurd (omega arith)
 first_difference-too_short at (y ∷ ys) some = refl
 
-pub difference_sure : (expected : List ℕ) (s : Compared) (output : List ℕ) → s.differs ≡ true → Sees expected s output
+pub first_difference-differs : (expected : List ℕ) (s : Compared) (output : List ℕ) → s.differs ≡ true
+    → Sees expected s output
     → first_difference 0 output expected ≡ Some s.at
-difference_sure expected s output differs before =
+first_difference-differs expected s output differs before =
     ap (λ (l : List ℕ). first_difference 0 l expected) (sym (append-nil output))
     ∙ (before [] ∙ ap (λ (b : Bool). difference_from expected s.at b []) differs)
 
-pub difference_short : (expected : List ℕ) (s : Compared) (output : List ℕ) → s.differs ≡ false
+pub first_difference-output_short : (expected : List ℕ) (s : Compared) (output : List ℕ) → s.differs ≡ false
     → 0 < length (drop s.at expected) → Sees expected s output
     → first_difference 0 output expected ≡ Some s.at
-difference_short expected s output differs some before =
+first_difference-output_short expected s output differs some before =
     ap (λ (l : List ℕ). first_difference 0 l expected) (sym (append-nil output))
     ∙ (before []
     ∙ (ap (λ (b : Bool). difference_from expected s.at b []) differs
@@ -96,8 +97,8 @@ ComparedPrefix bytes expected n =
     (k : ℕ) (more : List ℕ)
     → first_difference k (bytes ++ more) expected ≡ first_difference (k + n) (drop n bytes ++ more) (drop n expected)
 
-pub front_none : (bytes expected : List ℕ) → ComparedPrefix bytes expected 0
-front_none bytes expected = λ k more. ap (λ (i : ℕ). first_difference i (bytes ++ more) expected) (omega arith)
+pub ComparedPrefix-zero : (bytes expected : List ℕ) → ComparedPrefix bytes expected 0
+ComparedPrefix-zero bytes expected = λ k more. ap (λ (i : ℕ). first_difference i (bytes ++ more) expected) (omega arith)
 
 same_heads : (k x y : ℕ) (xs ys : List ℕ) → x ≡ y
     → first_difference k (x ∷ xs) (y ∷ ys) ≡ first_difference (k + 1) xs ys
@@ -110,10 +111,10 @@ other_heads k x y xs ys apart =
     (λ (t : (eqb x y ≡ false) × (x ≢ y)). ap (λ (b : Bool). cond b (first_difference (k + 1) xs ys) (Some k)) t.0)
     (eqb_tells x y)
 
-pub front_more : (bytes expected : List ℕ) (n : ℕ) → n < length bytes → n < length expected
+pub ComparedPrefix-next : (bytes expected : List ℕ) (n : ℕ) → n < length bytes → n < length expected
     → get_or bytes n 0 ≡ get_or expected n 0
     → ComparedPrefix bytes expected n → ComparedPrefix bytes expected (n + 1)
-front_more bytes expected n in_bytes in_expected same before = λ k more.
+ComparedPrefix-next bytes expected n in_bytes in_expected same before = λ k more.
     before k more
     ∙ (ap (λ (l : List ℕ). first_difference (k + n) (l ++ more) (drop n expected)) (drop_more bytes n 0 in_bytes)
     ∙ (ap (λ (l : List ℕ). first_difference (k + n) (get_or bytes n 0 ∷ (drop (n + 1) bytes ++ more)) l)
@@ -123,18 +124,18 @@ front_more bytes expected n in_bytes in_expected same before = λ k more.
     ∙ ap (λ (i : ℕ). first_difference i (drop (n + 1) bytes ++ more) (drop (n + 1) expected)) (omega arith))))
 
 -- another byte, or none that is expected
-pub other_byte : (bytes expected : List ℕ) (n : ℕ) → n < length bytes → n < length expected
+pub first_difference-other_byte : (bytes expected : List ℕ) (n : ℕ) → n < length bytes → n < length expected
     → (get_or bytes n 0 ≡ get_or expected n 0 → ⊥)
     → (k : ℕ) (more : List ℕ) → first_difference k (drop n bytes ++ more) (drop n expected) ≡ Some k
-other_byte bytes expected n in_bytes in_expected apart k more =
+first_difference-other_byte bytes expected n in_bytes in_expected apart k more =
     ap (λ (l : List ℕ). first_difference k (l ++ more) (drop n expected)) (drop_more bytes n 0 in_bytes)
     ∙ (ap (λ (l : List ℕ). first_difference k (get_or bytes n 0 ∷ (drop (n + 1) bytes ++ more)) l)
     (drop_more expected n 0 in_expected)
     ∙ other_heads k (get_or bytes n 0) (get_or expected n 0) (drop (n + 1) bytes ++ more) (drop (n + 1) expected) apart)
 
-pub no_byte : (bytes expected : List ℕ) (n : ℕ) → n < length bytes → length expected ≤ n
+pub first_difference-too_many_bytes : (bytes expected : List ℕ) (n : ℕ) → n < length bytes → length expected ≤ n
     → (k : ℕ) (more : List ℕ) → first_difference k (drop n bytes ++ more) (drop n expected) ≡ Some k
-no_byte bytes expected n in_bytes all k more =
+first_difference-too_many_bytes bytes expected n in_bytes all k more =
     ap (λ (l : List ℕ). first_difference k (l ++ more) (drop n expected)) (drop_more bytes n 0 in_bytes)
     ∙ ap (λ (l : List ℕ). first_difference k (get_or bytes n 0 ∷ (drop (n + 1) bytes ++ more)) l)
     (drop_of_length-le expected all)

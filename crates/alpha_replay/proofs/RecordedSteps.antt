@@ -85,11 +85,11 @@ open_by : (n used : ℕ) (pending : Option Pending) → used + unit_of (trap_in 
 open_by n used None room = ne_eqb used n (λ (same : used ≡ n). omega arith)
 open_by n used (Some p) room = refl
 
-pub goes_at : (n used : ℕ) (completion : Completion) (before : List ImpreciseEvent) (from : ImpreciseEvent)
+pub stops_at-going : (n used : ℕ) (completion : Completion) (before : List ImpreciseEvent) (from : ImpreciseEvent)
     (w : ImpreciseState)
     → builder_fits (builder_of before) ≡ true → finished from ≡ false → used + unit_of (trap_in w.pending) ≤ n
     → stops_at n completion used before (step_result_of w from) ≡ false
-goes_at n used completion before from w fits going room =
+stops_at-going n used completion before from w fits going room =
     ap (λ (b : Bool). not b || (finished from || (is_none (trap_in w.pending) && (used == n)))) fits
     ∙ (ap (λ (b : Bool). b || (is_none (trap_in w.pending) && (used == n))) going ∙ open_by n used w.pending room)
 
@@ -104,10 +104,10 @@ abbrev pub AllFit : BuilderState → List StepLabel → Type 0
 AllFit t [] = ⊤
 AllFit t (p ∷ ps) = (builder_fits (built_on t p) ≡ true) × AllFit (built_on t p) ps
 
-pub fits_over : (t : BuilderState) (ps : List StepLabel) → builder_fits t ≡ true → AllFit t ps
+pub builder_fits-built_over : (t : BuilderState) (ps : List StepLabel) → builder_fits t ≡ true → AllFit t ps
     → builder_fits (built_over t ps) ≡ true
-fits_over t [] fits all = fits
-fits_over t (p ∷ ps) fits all = fits_over (built_on t p) ps all.0 all.1
+builder_fits-built_over t [] fits all = fits
+builder_fits-built_over t (p ∷ ps) fits all = builder_fits-built_over (built_on t p) ps all.0 all.1
 
 pub builder_over : (before : List ImpreciseEvent) (ps : List StepLabel) (old new : ImpreciseState)
     → (row : Row ImpreciseStep old ps new)
@@ -132,7 +132,7 @@ going_row-GoesOver n g used before from old new (p ∷ ps) going program fits al
     let h = is.step.last_event in
     let more = used + unit_of (trap_in old.pending) in
     let tape = builder_more before p old mid is in
-    let one = goes_at n used g.completion before from old fits going (omega (arith, is.step.units, room)) in
+    let one = stops_at-going n used g.completion before from old fits going (omega (arith, is.step.units, room)) in
     let rest = going_row-GoesOver n g more (before ++ h ∷ []) h mid new ps (finished-is_over old p mid is ∙ goes.0)
     (is.step.program ∙ program)
     (subst (λ (t : BuilderState). builder_fits t ≡ true) (sym tape) all.0)

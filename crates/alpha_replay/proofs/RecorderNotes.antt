@@ -26,10 +26,10 @@ use Rattle.alpha_replay.proofs.GatheredCounts.{units-closed, length-closed}
 
 -- ---- where a step fits
 
-pub fit_parts : (a b c : Bool) → (a && b && c) ≡ true → (a ≡ true) × (b ≡ true) × (c ≡ true)
-fit_parts true true c e = (refl, refl, e)
-fit_parts true false c e = absurd cc
-fit_parts false b c e = absurd cc
+pub and-three_true : (a b c : Bool) → (a && b && c) ≡ true → (a ≡ true) × (b ≡ true) × (c ≡ true)
+and-three_true true true c e = (refl, refl, e)
+and-three_true true false c e = absurd cc
+and-three_true false b c e = absurd cc
 
 kept_fits : (t : BuilderState) (event : Event) (m : Machine) → builder_fits (built_by t event m) ≡ true
     → builder_after t event m ≡ built_by t event m
@@ -37,7 +37,8 @@ kept_fits t event m e =
     let took = took_by event m.memory in
     let put = put_by event m.memory in
     let more = gathered_by t.gathered (move_by event) in
-    let parts = fit_parts (nat_le (length (t.taken ++ took)) most_bytes) (nat_le (length (t.put ++ put)) most_bytes)
+    let parts =
+    and-three_true (nat_le (length (t.taken ++ took)) most_bytes) (nat_le (length (t.put ++ put)) most_bytes)
     (has_room more) e in
     ap (λ (b : Bool). builder_state (cond b (t.taken ++ took) t.taken) (bytes_kept t.put put) (kept t.gathered more))
     parts.0
@@ -161,7 +162,7 @@ ones_fit : (t : BuilderState) → builder_fits t ≡ true → has_room (with_one
     → builder_fits (builder_ones t 1) ≡ true
 ones_fit t fit room =
     let parts =
-    fit_parts (nat_le (length t.taken) most_bytes) (nat_le (length t.put) most_bytes) (has_room t.gathered) fit in
+    and-three_true (nat_le (length t.taken) most_bytes) (nat_le (length t.put) most_bytes) (has_room t.gathered) fit in
     ap (λ (b : Bool). b && nat_le (length t.put) most_bytes && has_room (with_ones t.gathered 1)) parts.0
     ∙ (ap (λ (b : Bool). b && has_room (with_ones t.gathered 1)) parts.1 ∙ room)
 
@@ -196,7 +197,7 @@ went_lines (p ∷ ps) r went =
 pub passes_over : (r : Recorder) (n : ℕ) → builder_fits r.builder ≡ true → n ≤ room_left r
     → PassesOver recording n r (record { builder = builder_ones r.builder n; full = r.full })
 passes_over r n fit low = λ ps went size.
-    let parts = fit_parts (nat_le (length r.builder.taken) most_bytes) (nat_le (length r.builder.put) most_bytes)
+    let parts = and-three_true (nat_le (length r.builder.taken) most_bytes) (nat_le (length r.builder.put) most_bytes)
     (has_room r.builder.gathered) fit in
     let all = went_fit ps r.builder went fit (λ k less. has_ones r.builder parts.2 k (omega arith)) in
     let seen = fit_unstopped r ps all.0 in (

@@ -159,15 +159,15 @@ module _ (image : Image) (p : Parts) (b : Place) (h : CursorAt (program_by image
 
 -- ---- the bytes that are left
 
-pub left_some : (l : List ℕ) (n : ℕ) → n ≡ length l → (n ≡ 0 → ⊥) → eqb (length l) 0 ≡ false
-left_some l n same some =
+pub eqb-length_not_zero : (l : List ℕ) (n : ℕ) → n ≡ length l → (n ≡ 0 → ⊥) → eqb (length l) 0 ≡ false
+eqb-length_not_zero l n same some =
     ⊎_elim
     (λ (t : (eqb (length l) 0 ≡ true) × (length l ≡ 0)). absurd (some (same ∙ t.1)))
     (λ (t : (eqb (length l) 0 ≡ false) × (length l ≢ 0)). t.0)
     (eqb_tells (length l) 0)
 
-pub left_none : (l : List ℕ) (n : ℕ) → n ≡ length l → n ≡ 0 → eqb (length l) 0 ≡ true
-left_none l n same none = eq-eqb (length l) 0 (sym same ∙ none)
+pub eqb-length_zero : (l : List ℕ) (n : ℕ) → n ≡ length l → n ≡ 0 → eqb (length l) 0 ≡ true
+eqb-length_zero l n same none = eq-eqb (length l) 0 (sym same ∙ none)
 
 -- ---- the parts of a journal
 

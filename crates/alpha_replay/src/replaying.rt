@@ -141,7 +141,11 @@ fn reports_of(items: &[Item]) -> u64
 }
 
 // The machine at the start of the image's program.
-fn machine_at_start(alloc: Global, image: Image, completion: Completion) -> Result<Wild, ReplayFault>
+fn machine_at_start(
+    alloc: Global,
+    image: Image,
+    completion: Completion,
+) -> Result<Wild, ReplayFault>
     ensures fresh { IfOk result IsFresh }
     ensures program { IfOk result (λ wild. program_of wild.machine
         ≡ record { image = image; completion = completion }) }

@@ -148,16 +148,16 @@ by_asked words c h =
     asked-named words (word_of n) h.rest n h.named (text_named n)
     ∙ (ap (option_and_then (command_in n)) h.matches ∙ h.makes)
 
-pub asked_both : (words : List Text) (c : Command)
+pub asked-AsksBy_iff : (words : List Text) (c : Command)
     → (asked words ≡ Some c) ↔ AsksBy (word_of (name_in c)) (spoken (name_in c)) c words
 unfolding AskedBy
-asked_both words c = (asked_by words c, by_asked words c)
+asked-AsksBy_iff words c = (asked_by words c, by_asked words c)
 
 -- each way of it
-pub rows_asked : (words : List Text) (c : Command) → asked words ≡ Some c
+pub asked-AsksBy : (words : List Text) (c : Command) → asked words ≡ Some c
     → AsksBy (word_of (name_in c)) (spoken (name_in c)) c words
-rows_asked words c = (asked_both words c).0
+asked-AsksBy words c = (asked-AsksBy_iff words c).0
 
 pub asked_rows : (words : List Text) (c : Command) → AsksBy (word_of (name_in c)) (spoken (name_in c)) c words
     → asked words ≡ Some c
-asked_rows words c = (asked_both words c).1
+asked_rows words c = (asked-AsksBy_iff words c).1

@@ -74,10 +74,10 @@ matches_on-refused own name words e BadWords same has other =
     (subst (λ a. HasKind (fault_of a words) e) same (has (ap is_simple_and_free same ∙ simple_and_free name)))
 
 -- words by their first one
-pub first_word : (words : List (String Global)) (first : String Global) → Some first ≡ slice_get words 0
+pub string_bytes-first_word : (words : List (String Global)) (first : String Global) → Some first ≡ slice_get words 0
     → map (λ word. string_bytes word) words ≡ string_bytes first ∷ map (λ word. string_bytes word) (drop 1 words)
-first_word [] first e = cc
-first_word (w ∷ ws) first e =
+string_bytes-first_word [] first e = cc
+string_bytes-first_word (w ∷ ws) first e =
     let same : first ≡ w = cc in
     ap (λ x. string_bytes x ∷ map (λ word. string_bytes word) ws) (sym same)
 

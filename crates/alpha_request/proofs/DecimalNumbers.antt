@@ -36,7 +36,8 @@ number_parsed text n h parses =
     let all = (and_parts (not (nat_lt 20 (length text))) (list_all is_ascii_digit text) h).1 in
     let parsed : ((0 < length text) × (digits_value 10 text < 2 ^ 64)) × (n ≡ digits_value 10 text) =
     parse_digits own_name {E = ℕ} 64 text (Ok n) parses all in
-    some_if-both (digits_value 10 text) (is_digits text) (nat_lt 0 (length text) && nat_lt (digits_value 10 text) (2 ^ 64)) h
+    some_if-both (digits_value 10 text) (is_digits text)
+    (nat_lt 0 (length text) && nat_lt (digits_value 10 text) (2 ^ 64)) h
     (and_from _ _ (lt-ltb 0 (length text) parsed.0.0) (lt-ltb (digits_value 10 text) (2 ^ 64) parsed.0.1))
     ∙ ap Some (sym parsed.1)
 
@@ -46,6 +47,7 @@ number_refused {E = E} text e h parses =
     let all = (and_parts (not (nat_lt 20 (length text))) (list_all is_ascii_digit text) h).1 in
     let parsed : (0 < length text) × (digits_value 10 text < 2 ^ 64) → ⊥ =
     parse_digits own_name {E = E} 64 text (Err e) parses all in
-    some_if-not_second (digits_value 10 text) (is_digits text) (nat_lt 0 (length text) && nat_lt (digits_value 10 text) (2 ^ 64))
+    some_if-not_second (digits_value 10 text) (is_digits text)
+    (nat_lt 0 (length text) && nat_lt (digits_value 10 text) (2 ^ 64))
     (λ b. let w = and_parts (nat_lt 0 (length text)) (nat_lt (digits_value 10 text) (2 ^ 64)) b in
     parsed (ltb-true 0 (length text) w.0, ltb-true (digits_value 10 text) (2 ^ 64) w.1))

@@ -9,12 +9,13 @@ use Rattle.alpha_request.specs.Command.{trial}
 use Rattle.alpha_request.specs.Options.{number_of}
 use Rattle.alpha_request.specs.Commands.Trial.{blocks_in, blocks_of, within_blocks}
 use Rattle.alpha_request.specs.Asked.{asked}
-use Rattle.alpha_request.proofs.AskedBy.{rows_asked}
+use Rattle.alpha_request.proofs.AskedBy.{asked-AsksBy}
 
 abbrev IsWithin : ℕ → Type 0
 IsWithin n = (0 < n) × (n ≤ 20000)
 
-IsWithin-tested : (m n : ℕ) (b : Bool) → (nat_lt 0 m && nat_le m 20000) ≡ b → (if b then Some m else None) ≡ Some n → IsWithin n
+IsWithin-tested : (m n : ℕ) (b : Bool) → (nat_lt 0 m && nat_le m 20000) ≡ b → (if b then Some m else None) ≡ Some n
+    → IsWithin n
 IsWithin-tested m n true is e =
     let same : m ≡ n = cc in
     let (some, most) = and_parts (nat_lt 0 m) (nat_le m 20000) is in
@@ -35,5 +36,5 @@ trial_in (Some m) n e = cc
 
 pub asked_blocks : (words : List Text) (n : ℕ) → asked words ≡ Some (trial n) → (0 < n) × (n ≤ 20000)
 asked_blocks words n e =
-    let h = rows_asked words (trial n) e in
+    let h = asked-AsksBy words (trial n) e in
     of_text (first_of (codes "blocks") h.rows) n (trial_in (blocks_in h.rows) n h.makes)

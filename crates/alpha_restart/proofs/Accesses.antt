@@ -16,7 +16,7 @@ use Rattle.alpha_mem.specs.Memory.{byte_at, bytes_at, write_bytes, IsLayout}
 use Rattle.alpha_mem.proofs.LawLemmas as mem
 use Rattle.alpha_restart.specs.Match.{Reached, DeadByte, SameBytes, intent_of}
 use Rattle.alpha_restart.proofs.CodeWordBounds.{access-IsNarrow}
-use Rattle.alpha_restart.proofs.BytesAlike.{dead_byte_on, reached_on}
+use Rattle.alpha_restart.proofs.BytesAlike.{DeadByte-next_word, Reached-next_word}
 
 module _ (code : List ℕ) (q e : ℕ) (regs : List ℕ) (m n : List Block) (c : MemAccess) (h : SameBytes code q e regs m n)
     (less : q < e) (accesses : access (class_at code q) ≡ Some c) where
@@ -54,7 +54,7 @@ module _ (code : List ℕ) (q e : ℕ) (regs : List ℕ) (m n : List Block) (c :
       → bytes_at n (here) c.bytes ≡ bytes_at m (here) c.bytes
   same_loaded load =
       sym (mem.bytes_at-agree m n (here) c.bytes (sym h.blocks) h.layout
-      (mem.within-granted (shapes m) Load (here) c.bytes h.layout (access-IsNarrow code q c accesses).divides
+      (mem.within-no_fault (shapes m) Load (here) c.bytes h.layout (access-IsNarrow code q c accesses).divides
       (granted_here kinds.Load load))
       (λ x low high. read_same x load (record { from = low; below = high })))
 
@@ -73,7 +73,7 @@ module _ (code : List ℕ) (q e : ℕ) (regs : List ℕ) (m n : List Block) (c :
       there =
           subst (λ k. IsTrue (within (shapes m) Load (here) k)) (sym size)
           (mem.within-readable (shapes m) (here) c.bytes
-          (mem.within-granted (shapes m) Store (here) c.bytes h.layout (access-IsNarrow code q c accesses).divides
+          (mem.within-no_fault (shapes m) Store (here) c.bytes h.layout (access-IsNarrow code q c accesses).divides
           (granted_here kinds.Store store)))
 
       inside : here ≤ y → y < here + length xs
@@ -98,7 +98,7 @@ module _ (code : List ℕ) (q e : ℕ) (regs : List ℕ) (m n : List Block) (c :
           (λ (same : byte_at n y ≡ byte_at m y). inl (mem.byte_at-write_bytes_outside n (here) xs y out
           ∙ (same ∙ sym (mem.byte_at-write_bytes_outside m (here) xs y out))))
           (λ (d : DeadByte code q e regs y).
-          inr (dead_byte_on code q e e regs regs m n y (λ x u. refl) h (omega arith) d (elsewhere out d)))
+          inr (DeadByte-next_word code q e e regs regs m n y (λ x u. refl) h (omega arith) d (elsewhere out d)))
           (h.bytes y)
 
   pub bytes_stored : (xs : List ℕ) → length xs ≡ c.bytes → kind (class_at code q) ≡ Some kinds.Store
@@ -110,5 +110,6 @@ module _ (code : List ℕ) (q e : ℕ) (regs : List ℕ) (m n : List Block) (c :
         layout = subst IsLayout (sym mine) h.layout;
         bytes = λ y. stored_byte xs y size store;
         reached = λ i d low high is. subst (λ ss. Reached code (q + 1) i d regs ss) (sym mine)
-            (reached_on code q i d regs regs m (omega arith) (λ x u. refl) (h.reached i d (omega arith) high is));
+            (Reached-next_word code q i d regs regs m (omega arith) (λ x u. refl)
+            (h.reached i d (omega arith) high is));
       }

@@ -23,7 +23,7 @@ use Rattle.alpha_restart.specs.Safe.{IsSafe}
 use Rattle.alpha_restart.specs.Invariant.{IsReady, Trail, Together, exact, synced, window, stopping, stopped}
 use Rattle.alpha_restart.proofs.Safety.{safe}
 use Rattle.alpha_restart.proofs.ImagePlaces.{trail_scan}
-use Rattle.alpha_restart.proofs.StartState.{ready_start}
+use Rattle.alpha_restart.proofs.StartState.{IsReady-start}
 use Rattle.alpha_restart.proofs.Together.{from_same}
 use Rattle.alpha_restart.proofs.Resynchronization.{from_synced}
 use Rattle.alpha_restart.proofs.PendingSteps.{from_window, from_stopping}
@@ -220,7 +220,7 @@ module _ (g : Program) (good : IsImage g.image) (safety : IsSafe g.image.words) 
   pub restarts_from : IsReady s → RestartsFrom g s
   restarts_from ready = λ steps w run. agrees steps w (follow_all steps [] (imprecise_start s) w (begin ready) run)
 
-pub accepted_restarts : (image : Parts) → IsImage image → IsAccepted image.words → IsRestartable image
-accepted_restarts image good accepted = λ completion.
+pub IsAccepted-IsRestartable : (image : Parts) → IsImage image → IsAccepted image.words → IsRestartable image
+IsAccepted-IsRestartable image good accepted = λ completion.
     let g : Program = record { image = image; completion = completion } in
-    restarts_from g good (safe image.words accepted) (start g) (ready_start g good)
+    restarts_from g good (safe image.words accepted) (start g) (IsReady-start g good)

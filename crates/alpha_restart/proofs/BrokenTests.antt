@@ -15,8 +15,8 @@ use Rattle.alpha_shadow.specs.declared.broken.Condition.TheVariants.{ZeroDestina
 use Rattle.alpha_shadow.specs.declared.broken.Condition.TheVariants.{WildBase, LoadThenStore, Locked, Turn, Open, Long}
 use Rattle.alpha_shadow.specs.Broken.{Holds, IsBroken}
 use Rattle.alpha_trap.specs.Scan.{is_straight, is_destination}
-use Rattle.alpha_trap.proofs.ClassTests.{trigger_has_rc, trap_rc-is_destination, on_straight}
-use Rattle.alpha_trap.proofs.GreatestInRange.{within_any, within_all, list_all-range}
+use Rattle.alpha_trap.proofs.ClassTests.{trigger_has_rc, trap_rc-is_destination, kind-is_straight}
+use Rattle.alpha_trap.proofs.GreatestInRange.{list_any-of_range, list_all-of_range, list_all-range}
 use Rattle.alpha_restart.proofs.CodeWordBounds.{class_within, class_past}
 
 -- ---- tests of one word
@@ -91,9 +91,9 @@ holds_may code t i SourceLost order h =
     let low = h.2.above in
     let high = h.2.below in
     ap (λ o. option_map_or (λ x. list_any (is_exposed code t x) (range_with_len t (i + 1 - t))) o false) h.1
-    ∙ within_any (is_exposed code t r) t (i + 1 - t) j low (omega arith)
+    ∙ list_any-of_range (is_exposed code t r) t (i + 1 - t) j low (omega arith)
     (and_from (uses (class_at code j) r) _ h.2.uses
-    (within_all (λ k. not (is_register (sets (class_at code k)) r)) t (j - t)
+    (list_all-of_range (λ k. not (is_register (sets (class_at code k)) r)) t (j - t)
     (λ k above below. is_register-not (sets (class_at code k)) r
     (λ e. h.2.unset (record { place = k; above = above; below = omega arith; sets = e })))))
 holds_may code t i SameDestination order h =
@@ -106,14 +106,14 @@ holds_may code t i WildBase order h =
     and_from (ltb t i) _ (lt-ltb t i h.0)
     (ap (λ o. option_map_or (λ (a : MemAccess).
     list_any (λ k. is_register (sets (class_at code k)) a.base) (range_with_len t (i - t))) o false) h.1.1
-    ∙ within_any (λ k. is_register (sets (class_at code k)) base) t (i - t) set.place low (omega arith)
+    ∙ list_any-of_range (λ k. is_register (sets (class_at code k)) base) t (i - t) set.place low (omega arith)
     (is_named-same (sets (class_at code set.place)) base set.sets))
 holds_may code t i LoadThenStore order h =
     let low = h.1 in
     let high = h.2 in
     let meets = h.3.1.1 in
     and_from (of_kind is_store (class_at code i)) _ (kind_is is_store (class_at code i) kinds.Store meets.2 refl)
-    (within_any (λ k. of_kind is_load (class_at code k)) (t + 1) (i - (t + 1)) h.0 (omega arith) (omega arith)
+    (list_any-of_range (λ k. of_kind is_load (class_at code k)) (t + 1) (i - (t + 1)) h.0 (omega arith) (omega arith)
     (kind_is is_load (class_at code h.0) kinds.Load meets.0 refl))
 holds_may code t i Locked order h = kind_is is_locked (class_at code i) kinds.Locked h refl
 holds_may code t i Turn order h = kind_is is_turn (class_at code i) kinds.Turn h refl
@@ -171,8 +171,8 @@ nothing_broken-sound code c e t i h =
     let found : may_break code c t i ≡ true =
     and_from (is_some (trap_rc (class_at code t))) _ (trigger_has_rc (class_at code t) h.trigger_kind)
     (and_from (list_all (λ k. is_straight (class_at code k)) (range_with_len t (i - t))) _
-    (within_all (λ k. is_straight (class_at code k)) t (i - t)
-    (λ k above below. let s = h.straight k above (omega arith) in on_straight (class_at code k) s.0 s.1))
+    (list_all-of_range (λ k. is_straight (class_at code k)) t (i - t)
+    (λ k above below. let s = h.straight k above (omega arith) in kind-is_straight (class_at code k) s.0 s.1))
     (holds_may code t i c order h.holds)) in
     let f : not true ≡ true = sym (ap not found) ∙ never in
     cc

@@ -21,20 +21,21 @@ covers_moved : (c : MemAccess) (v w y : ℕ) → v ≡ w → Covers c v y → Co
 covers_moved c v w y e h = subst (λ n. Covers c n y) e h
 
 -- the words behind the one at q reach their accesses as before
-pub reached_on : (code : List ℕ) (q i : ℕ) (c : MemAccess) (old new : List ℕ) (m : List Block) → q < i
+pub Reached-next_word : (code : List ℕ) (q i : ℕ) (c : MemAccess) (old new : List ℕ) (m : List Block) → q < i
     → SameUnset code q old new
     → Reached code q i c old (shapes m) → Reached code (q + 1) i c new (shapes m)
-reached_on code q i c old new m above same_unset h = record {
+Reached-next_word code q i c old new m above same_unset h = record {
   base = λ k low high. h.base k (omega arith) high;
   granted = ap (λ v. fault_of (shapes m) (intent_of (kind (class_at code i))) (access_address c v) c.bytes)
       (same_unset c.base (h.base q (omega arith) above)) ∙ h.granted;
 }
 
 -- a dead byte that no store at q writes is dead behind q
-pub dead_byte_on : (code : List ℕ) (q e f : ℕ) (old new : List ℕ) (m n : List Block) (y : ℕ) → SameUnset code q old new
+pub DeadByte-next_word : (code : List ℕ) (q e f : ℕ) (old new : List ℕ) (m n : List Block) (y : ℕ)
+    → SameUnset code q old new
     → SameBytes code q e old m n
     → e ≤ f → (d : DeadByte code q e old y) → (d.at ≢ q) → DeadByte code (q + 1) f new y
-dead_byte_on code q e f old new m n y same_unset h more d apart =
+DeadByte-next_word code q e f old new m n y same_unset h more d apart =
     let low = d.above in
     let high = d.below in
     record {
@@ -54,33 +55,34 @@ dead_byte_on code q e f old new m n y same_unset h more d apart =
     }
 
 -- past a word that stores nothing
-pub bytes_on : (code : List ℕ) (q e f : ℕ) (old new : List ℕ) (m n : List Block)
+pub SameBytes-next_word : (code : List ℕ) (q e f : ℕ) (old new : List ℕ) (m n : List Block)
     → kind (class_at code q) ≢ Some kinds.Store
     → SameUnset code q old new → SameBytes code q e old m n → e ≤ f → ((i : ℕ) → q < i → i < f → i < e)
     → SameBytes code (q + 1) f new m n
-bytes_on code q e f old new m n plain same_unset h more few = record {
+SameBytes-next_word code q e f old new m n plain same_unset h more few = record {
   blocks = h.blocks;
   layout = h.layout;
   bytes = λ y. ⊎_elim
       (λ (same : byte_at n y ≡ byte_at m y). inl same)
-      (λ (d : DeadByte code q e old y). inr (dead_byte_on code q e f old new m n y same_unset h more d
+      (λ (d : DeadByte code q e old y). inr (DeadByte-next_word code q e f old new m n y same_unset h more d
       (λ is. plain (ap (λ k. kind (class_at code k)) (sym is) ∙ d.store))))
       (h.bytes y);
   reached =
-      λ i c low high accesses. reached_on code q i c old new m (omega arith) same_unset
+      λ i c low high accesses. Reached-next_word code q i c old new m (omega arith) same_unset
       (h.reached i c (omega arith) (few i (omega arith) high) accesses);
 }
 
 -- at the end no byte is dead
-pub bytes_end : (code : List ℕ) (q : ℕ) (regs : List ℕ) (m n : List Block) → SameBytes code q q regs m n → n ≡ m
-bytes_end code q regs m n h = mem.same_memory n m h.blocks (subst IsLayout (sym h.blocks) h.layout) (λ y. ⊎_elim
+pub SameBytes-end : (code : List ℕ) (q : ℕ) (regs : List ℕ) (m n : List Block) → SameBytes code q q regs m n → n ≡ m
+SameBytes-end code q regs m n h =
+    mem.memory-extensional n m h.blocks (subst IsLayout (sym h.blocks) h.layout) (λ y. ⊎_elim
     (λ (same : byte_at n y ≡ byte_at m y). same)
     (λ (d : DeadByte code q q regs y). let low = d.above in let high = d.below in absurd (omega arith))
     (h.bytes y))
 
-pub bytes_same : (code : List ℕ) (q : ℕ) (regs : List ℕ) (m : List Block) → IsLayout (shapes m)
+pub SameBytes-refl : (code : List ℕ) (q : ℕ) (regs : List ℕ) (m : List Block) → IsLayout (shapes m)
     → SameBytes code q q regs m m
-bytes_same code q regs m layout = record {
+SameBytes-refl code q regs m layout = record {
   blocks = refl;
   layout = layout;
   bytes = λ y. inl refl;

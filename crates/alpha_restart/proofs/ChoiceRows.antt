@@ -21,7 +21,7 @@ use Rattle.alpha_seq.specs.Step.{onward, setting, lock_block, matches, next_clas
 use Rattle.alpha_trap.specs.Scan.{scan}
 use Rattle.alpha_imprecise.specs.StepResult.{Trap, with_register, Choice, Precisely, Waited, Reported, StepResult}
 use Rattle.alpha_imprecise.specs.StepResult.{step_result}
-use Rattle.alpha_imprecise.specs.Step.{triggers, triggered, destination, precisely, address_at, completed, report}
+use Rattle.alpha_imprecise.specs.Step.{triggers, triggered, trap_destination, precisely, address_at, completed, report}
 use Rattle.alpha_imprecise.specs.Step.{can_wait, unpredictable_state, unpredictable_conditional, waited, imprecise_step}
 use Rattle.alpha_imprecise.proofs.ReportLandings.{report_at}
 use Rattle.alpha_restart.specs.Table.{IsChoice, SetsAny, AreBytes, StoresAny, storing, StoresIf, Branches, Executed}
@@ -66,9 +66,10 @@ low_bytes_are n v = (length-digits 256 n v, below_all (digits 256 n v) (digits-A
 -- ---- a word that is executed
 
 -- the access of a word of the code
-pub next_narrow : (g : Program) (pc : ℕ) (o : Option Class) → next_class g pc ≡ o → (c : MemAccess) → access o ≡ Some c
+pub next_class-IsNarrow : (g : Program) (pc : ℕ) (o : Option Class) → next_class g pc ≡ o → (c : MemAccess)
+    → access o ≡ Some c
     → IsNarrow c
-next_narrow g pc o is c e = by (place_of g.image pc) refl
+next_class-IsNarrow g pc o is c e = by (place_of g.image pc) refl
   where
     by : (p : Option ℕ) → place_of g.image pc ≡ p → IsNarrow c
     by None f =
@@ -139,7 +140,8 @@ Chooses-branch : (condition : Option Cond) (ra : ℕ) (disp : ℤ) (s b : State)
 Chooses-branch None ra disp s b h = sets_any _ s b _ refl (λ v adds. refl) h
 Chooses-branch (Some c) ra disp s b h = same_any _ s b refl (λ adds. sym h)
 
-Chooses-executed : (o : Option Class) (s b : State) → ((c : MemAccess) → access o ≡ Some c → IsNarrow c) → Executed o s b
+Chooses-executed : (o : Option Class) (s b : State) → ((c : MemAccess) → access o ≡ Some c → IsNarrow c)
+    → Executed o s b
     → Chooses o s b
 Chooses-executed None s b fit h = absurd h
 Chooses-executed (Some (operate op ra src rc)) s b fit h = sets_any _ s b _ refl (λ v adds. refl) h
@@ -228,8 +230,8 @@ row_waits : (g : Program) (s : State) (pending : Option Trap) (input : List ℕ)
     → Chosen g s pending input m
 row_waits g s pending input m h =
     let o = next_class g s.pc in
-    let w = Chooses-executed o s h.after (next_narrow g s.pc o refl) h.executed in
-    let a = mask-stays_or_added h.t.mask (destination o) h.mask h.adds in
+    let w = Chooses-executed o s h.after (next_class-IsNarrow g s.pc o refl) h.executed in
+    let a = mask-stays_or_added h.t.mask (trap_destination o) h.mask h.adds in
     let c = waiting_choice w.value w.bytes a.0 in
     subst (λ (p : Option Trap). Chosen g s p input m) (sym h.some) (
       c,
@@ -237,7 +239,7 @@ row_waits g s pending input m h =
       by_test (not (can_wait o s)) false (report g s h.t) (waited o s h.t c) (ap not w.can)
           ∙ (ap (λ (b : State). step_result b (Some (record {
             place = h.t.place;
-            mask = cond a.0 (with_register h.t.mask (destination o)) h.t.mask;
+            mask = cond a.0 (with_register h.t.mask (trap_destination o)) h.t.mask;
           })) (Waited false 0 0)) (w.is a.0)
           ∙ (ap (λ n. step_result h.after (Some (record { place = h.t.place; mask = n })) (Waited false 0 0)) a.1
           ∙ sym h.is)),

@@ -126,8 +126,8 @@ access-IsNarrow code k c e = by (class_at code k) refl e
     by None f a = cc
     by (Some class) f a = (class_at-IsTabled code k class f).access c a
 
-pub low_destination : (code : List ℕ) (k r : ℕ) → trap_rc (class_at code k) ≡ Some r → r < 32
-low_destination code k r e = by (class_at code k) refl e
+pub trap_rc-lt : (code : List ℕ) (k r : ℕ) → trap_rc (class_at code k) ≡ Some r → r < 32
+trap_rc-lt code k r e = by (class_at code k) refl e
   where
     by : (o : Option Class) → class_at code k ≡ o → trap_rc o ≡ Some r → r < 32
     by None f a = cc

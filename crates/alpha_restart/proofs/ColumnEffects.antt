@@ -39,9 +39,9 @@ use Rattle.alpha_seq.specs.Step.{next_pc, onward, setting, went, ended, logging,
 use Rattle.alpha_seq.specs.Step.{unless, accessed, loaded, lock_block, matches, conditional, branch_target, returned}
 use Rattle.alpha_seq.specs.Step.{step}
 use Rattle.alpha_restart.specs.Columns.{answer_registers, MayWrite, AgreeFor, GoAlike}
-use Rattle.alpha_restart.proofs.Registers.{has_cases, reg-put_unset, reg-put_both, reg-past}
+use Rattle.alpha_restart.proofs.Registers.{option-equal_or_not, reg-put_unset, reg-put_both, reg-past}
 use Rattle.alpha_restart.proofs.SourcesAlike.{counts_first, counts_second, counts_moved, counts_source, source_used}
-use Rattle.alpha_restart.proofs.SourcesAlike.{same_result}
+use Rattle.alpha_restart.proofs.SourcesAlike.{result_of-old_unused}
 
 -- ---- what a step changes
 
@@ -53,12 +53,13 @@ put_keeps : (class : Option Class) (regs : List ℕ) (d v r : ℕ) → sets clas
 put_keeps class regs d v r e =
     ⊎_elim (λ (h : but_zero (Some d) ≡ Some r). inr (inl (e ∙ h)))
     (λ (n : but_zero (Some d) ≢ Some r). inl (reg-put_unset regs d r v n))
-    (has_cases (but_zero (Some d)) r)
+    (option-equal_or_not (but_zero (Some d)) r)
 
 -- an answer of a PALcode call
 answer_keeps : (call : PalCall) (regs after : List ℕ) (d v r : ℕ)
     → list_any (λ x. x == d) (answer_registers (Some (barrier (Some call)))) ≡ true
-    → KeepsUnlessWritten (Some (barrier (Some call))) regs after r → KeepsUnlessWritten (Some (barrier (Some call))) regs (put after d v) r
+    → KeepsUnlessWritten (Some (barrier (Some call))) regs after r
+    → KeepsUnlessWritten (Some (barrier (Some call))) regs (put after d v) r
 answer_keeps call regs after d v r there h =
     ⊎_elim (λ (e : r ≡ d). inr (inr (ap (λ k. list_any (λ x. x == k) (0 ∷ 19 ∷ [])) e ∙ there)))
     (λ (n : r ≡ d → ⊥).
@@ -105,7 +106,8 @@ read_keeps s r d at n mem unique input =
     (answers_keeps s r (length (take n input)) 0 mem unique Silent))
 
 write_keeps : (s : State) (r d at n : ℕ) (mem : List Block) (unique : ℕ)
-    → KeepsUnlessWritten (Some (barrier (Some Callsys))) s.regs (returned Callsys (write d at n s.regs mem unique) s).state.regs r
+    → KeepsUnlessWritten (Some (barrier (Some Callsys))) s.regs
+    (returned Callsys (write d at n s.regs mem unique) s).state.regs r
 write_keeps s r d at n mem unique =
     either_called s r (not (d == 1)) _ _ (answers_keeps s r 9 1 mem unique Silent)
     (either_called s r (not (within (shapes mem) Load at n)) _ _ (answers_keeps s r 14 1 mem unique Silent)
@@ -133,11 +135,12 @@ returned_keeps Rdunique s input r = answer_keeps Rdunique s.regs s.regs 0 s.uniq
 returned_keeps Wrunique s input r = inl refl
 returned_keeps Callsys s input r = callsys_keeps s r (reg s.regs 0) s.mem s.unique input
 
-pub step_keeps : (g : Program) (class : Option Class) (s : State) (input : List ℕ) (r : ℕ)
+pub step-unwritten_register : (g : Program) (class : Option Class) (s : State) (input : List ℕ) (r : ℕ)
     → (reg (step g class s input).state.regs r ≡ reg s.regs r) ⊎ MayWrite class r
-step_keeps g None s input r = inl refl
-step_keeps g (Some (operate op ra src rc)) s input r = put_keeps (Some (operate op ra src rc)) s.regs rc _ r refl
-step_keeps g (Some (trigger op ra src rc)) s input r =
+step-unwritten_register g None s input r = inl refl
+step-unwritten_register g (Some (operate op ra src rc)) s input r =
+    put_keeps (Some (operate op ra src rc)) s.regs rc _ r refl
+step-unwritten_register g (Some (trigger op ra src rc)) s input r =
     let class = Some (trigger op ra src rc) in
     let value = completed_of op (reg s.regs ra) (source_value s.regs src) g.completion in
     either_keeps class s.regs r (overflow_of op (reg s.regs ra) (source_value s.regs src))
@@ -145,23 +148,24 @@ step_keeps g (Some (trigger op ra src rc)) s input r =
     (either_keeps class s.regs r (stops g.completion) (ended s (ends.Overflow s.pc))
     (stepped (logging s rc value) (Overflowed s.pc)) (inl refl) (put_keeps class s.regs rc value r refl))
     (put_keeps class s.regs rc value r refl)
-step_keeps g (Some (address op ra rb disp)) s input r = put_keeps (Some (address op ra rb disp)) s.regs ra _ r refl
-step_keeps g (Some (load extension at ra)) s input r =
+step-unwritten_register g (Some (address op ra rb disp)) s input r =
+    put_keeps (Some (address op ra rb disp)) s.regs ra _ r refl
+step-unwritten_register g (Some (load extension at ra)) s input r =
     unless_keeps (Some (load extension at ra)) s _ r _ _ (put_keeps (Some (load extension at ra)) s.regs ra _ r refl)
-step_keeps g (Some (store at ra)) s input r = unless_keeps (Some (store at ra)) s _ r _ _ (inl refl)
-step_keeps g (Some (load_locked extension at ra)) s input r =
+step-unwritten_register g (Some (store at ra)) s input r = unless_keeps (Some (store at ra)) s _ r _ _ (inl refl)
+step-unwritten_register g (Some (load_locked extension at ra)) s input r =
     unless_keeps (Some (load_locked extension at ra)) s _ r _ _
     (put_keeps (Some (load_locked extension at ra)) s.regs ra _ r refl)
-step_keeps g (Some (store_conditional at ra)) s input r =
+step-unwritten_register g (Some (store_conditional at ra)) s input r =
     unless_keeps (Some (store_conditional at ra)) s _ r _ _
     (conditional_keeps s at ra r (matches s.lock (lock_block at s)))
-step_keeps g (Some (branch None ra disp)) s input r =
+step-unwritten_register g (Some (branch None ra disp)) s input r =
     put_keeps (Some (branch None ra disp)) s.regs ra (next_pc s) r refl
-step_keeps g (Some (branch (Some c) ra disp)) s input r = inl refl
-step_keeps g (Some (jump ra rb)) s input r = put_keeps (Some (jump ra rb)) s.regs ra (next_pc s) r refl
-step_keeps g (Some (barrier None)) s input r = inl refl
-step_keeps g (Some (barrier (Some function))) s input r = returned_keeps function s input r
-step_keeps g (Some idle) s input r = inl refl
+step-unwritten_register g (Some (branch (Some c) ra disp)) s input r = inl refl
+step-unwritten_register g (Some (jump ra rb)) s input r = put_keeps (Some (jump ra rb)) s.regs ra (next_pc s) r refl
+step-unwritten_register g (Some (barrier None)) s input r = inl refl
+step-unwritten_register g (Some (barrier (Some function))) s input r = returned_keeps function s input r
+step-unwritten_register g (Some idle) s input r = inl refl
 
 -- ---- on what it depends
 
@@ -181,7 +185,7 @@ put_alike regs other x y d v w r size also same h =
     (λ (both : (reg y r ≡ reg other r) × (reg x r ≡ reg regs r)).
     inr (reg-put_unset y d r w n ∙ both.0, reg-put_unset x d r v n ∙ both.1))
     h)
-    (has_cases (but_zero (Some d)) r)
+    (option-equal_or_not (but_zero (Some d)) r)
 
 -- the steps of accesses at an address, with the value that is stored
 
@@ -323,7 +327,8 @@ module _ (class : Option Class) (s : State) (other : List ℕ) (agree : AgreeFor
       unless_alike (fault_of (shapes s.mem) Store n at.bytes) n _ _
       (record { event = refl; state = refl; registers = stays })
 
-  trying_alike : (at : MemAccess) (ra n v : ℕ) → GoAlike s.regs other (conditional_store_step at ra n v s) (conditional_store_step at ra n v too)
+  trying_alike : (at : MemAccess) (ra n v : ℕ)
+      → GoAlike s.regs other (conditional_store_step at ra n v s) (conditional_store_step at ra n v too)
   trying_alike at ra n v =
       unless_alike (fault_of (shapes s.mem) Store n at.bytes) n _ _
       (conditionally_alike at ra n v (matches s.lock (n / 16)))
@@ -373,7 +378,8 @@ module _ (s : State) (other : List ℕ) (agree : AgreeFor (Some (barrier (Some C
       (answers_alike n 0 mem _ _))
 
   asked_alike : (number a0 a1 a2 : ℕ) (mem : List Block) (unique : ℕ) (input : List ℕ)
-      → CallAlike (call_by_number number a0 a1 a2 s.regs mem unique input) (call_by_number number a0 a1 a2 other mem unique input)
+      → CallAlike (call_by_number number a0 a1 a2 s.regs mem unique input)
+      (call_by_number number a0 a1 a2 other mem unique input)
   asked_alike number a0 a1 a2 mem unique input =
       either_call (number == 1) _ _ _ _ (exits_alike a0)
       (either_call (number == 3) _ _ _ _ (read_alike a0 a1 a2 mem unique input)
@@ -387,9 +393,12 @@ module _ (s : State) (other : List ℕ) (agree : AgreeFor (Some (barrier (Some C
       let r17 : reg other 17 ≡ reg s.regs 17 = agree.read 17 (inr refl) in
       let r18 : reg other 18 ≡ reg s.regs 18 = agree.read 18 (inr refl) in
       let x = callsys (reg s.regs 0) s.regs mem unique input in
-      subst (λ n. CallAlike x (call_by_number n (reg other 16) (reg other 17) (reg other 18) other mem unique input)) (sym r0)
-      (subst (λ a. CallAlike x (call_by_number (reg s.regs 0) a (reg other 17) (reg other 18) other mem unique input)) (sym r16)
-      (subst (λ a. CallAlike x (call_by_number (reg s.regs 0) (reg s.regs 16) a (reg other 18) other mem unique input)) (sym r17)
+      subst (λ n. CallAlike x (call_by_number n (reg other 16) (reg other 17) (reg other 18) other mem unique input))
+      (sym r0)
+      (subst (λ a. CallAlike x (call_by_number (reg s.regs 0) a (reg other 17) (reg other 18) other mem unique input))
+      (sym r16)
+      (subst (λ a. CallAlike x (call_by_number (reg s.regs 0) (reg s.regs 16) a (reg other 18) other mem unique input))
+      (sym r17)
       (subst (λ a. CallAlike x (call_by_number (reg s.regs 0) (reg s.regs 16) (reg s.regs 17) a other mem unique input))
       (sym r18)
       (asked_alike (reg s.regs 0) (reg s.regs 16) (reg s.regs 17) (reg s.regs 18) mem unique input))))
@@ -438,7 +447,7 @@ module _ (g : Program) (s : State) (other input : List ℕ) where
       set_alike class s other agree rc _ _
       (ap (λ x. result_of g.image.level op x (source_value other src) (reg other rc)) one
       ∙ (ap (λ y. result_of g.image.level op (reg s.regs ra) y (reg other rc)) two
-      ∙ same_result g.image.level op (reg s.regs ra) (source_value s.regs src) (reg other rc) (reg s.regs rc)
+      ∙ result_of-old_unused g.image.level op (reg s.regs ra) (source_value s.regs src) (reg other rc) (reg s.regs rc)
       (λ move.
       read_at class s other agree rc (λ low. counts_moved (is_move op) ra rc (source_registers src) move low))))
 
@@ -478,7 +487,8 @@ module _ (g : Program) (s : State) (other input : List ℕ) where
       let class = Some (load_locked extension at ra) in
       let n = access_address at (reg s.regs at.base) in
       subst (λ x. GoAlike s.regs other x (step g class too_at input)) (locking_is g extension at ra s input)
-      (subst (λ y. GoAlike s.regs other (locked_load_step extension at ra n s) y) (locking_is g extension at ra too_at input)
+      (subst (λ y. GoAlike s.regs other (locked_load_step extension at ra n s) y)
+      (locking_is g extension at ra too_at input)
       (by_number s.regs other (locked_load_step extension at ra n s) (λ m. locked_load_step extension at ra m too_at) n
       (access_address at (reg other at.base))
       (accessed_alike class s other agree at (λ low. counts_first at.base [] low))

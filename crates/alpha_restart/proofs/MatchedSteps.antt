@@ -29,15 +29,15 @@ use Rattle.alpha_seq.specs.State.{Program, State, Went, Stepped}
 use Rattle.alpha_seq.specs.Step.{next_pc, onward, setting, went, overflowed, lda_value, accessed, unless, loaded}
 use Rattle.alpha_seq.specs.Step.{written_memory, step}
 use Rattle.alpha_seq.specs.Executed.{filled}
-use Rattle.alpha_seq.proofs.LoadedValues.{loaded_is}
+use Rattle.alpha_seq.proofs.LoadedValues.{loaded_filled}
 use Rattle.alpha_imprecise.specs.Step.{triggers}
 use Rattle.alpha_restart.specs.Safe.{is_steady}
 use Rattle.alpha_restart.specs.Match.{Alike, SameBytes, Match}
 use Rattle.alpha_restart.proofs.Registers.{reg-put_unset, reg-put_both}
 use Rattle.alpha_restart.proofs.SourcesAlike.{counts_first, counts_second, counts_moved, counts_source, source_used}
-use Rattle.alpha_restart.proofs.SourcesAlike.{same_read, source_value-Alike, same_result}
-use Rattle.alpha_restart.proofs.RegistersAlike.{alike_on}
-use Rattle.alpha_restart.proofs.BytesAlike.{bytes_on}
+use Rattle.alpha_restart.proofs.SourcesAlike.{Alike-read_register, source_value-Alike, result_of-old_unused}
+use Rattle.alpha_restart.proofs.RegistersAlike.{Alike-next_word}
+use Rattle.alpha_restart.proofs.BytesAlike.{SameBytes-next_word}
 use Rattle.alpha_restart.proofs.Accesses.{granted_here, granted_there, same_loaded, bytes_stored}
 
 -- both steps executed a word, and left matched states behind it
@@ -53,7 +53,7 @@ module _ (code : List ℕ) (q e : ℕ) (s a : State) (h : Match code q e s a) wh
   used_at o x is u = ap (λ (c : Option Class). uses c x) is ∙ u
 
   read_at : (o : Option Class) (x : ℕ) → class_at code q ≡ o → (x < 31 → uses o x ≡ true) → reg a.regs x ≡ reg s.regs x
-  read_at o x is u = same_read code q e x s.regs a.regs h.registers (λ low. used_at o x is (u low))
+  read_at o x is u = Alike-read_register code q e x s.regs a.regs h.registers (λ low. used_at o x is (u low))
 
   source_at : (o : Option Class) (src : Src) → class_at code q ≡ o → ((x : ℕ) → src ≡ Reg x → x < 31 → uses o x ≡ true)
       → source_value a.regs src ≡ source_value s.regs src
@@ -91,13 +91,14 @@ module _ (code : List ℕ) (q e : ℕ) (s a : State) (h : Match code q e s a) wh
           pc = refl;
           pc_too = refl;
           matched = record {
-            registers = alike_on code q e s.regs a.regs (put s.regs r v) (put a.regs r w) h.registers less
+            registers = Alike-next_word code q e s.regs a.regs (put s.regs r v) (put a.regs r w) h.registers less
                 (length-put s.regs r v ∙ size) (length-put a.regs r w ∙ also)
                 (λ x n. reg-put_unset s.regs r x v (λ f. n (which ∙ f)))
                 (λ x n. reg-put_unset a.regs r x w (λ f. n (which ∙ f)))
                 (λ x f. ap (λ u. reg (put a.regs r u) x) same
                 ∙ reg-put_both a.regs s.regs r x v (sym which ∙ f) also size);
-            memory = bytes_on code q e e s.regs (put s.regs r v) s.mem a.mem (λ f. plain (ap kind (sym is) ∙ f))
+            memory =
+                SameBytes-next_word code q e e s.regs (put s.regs r v) s.mem a.mem (λ f. plain (ap kind (sym is) ∙ f))
                 (λ x n. reg-put_unset s.regs r x v (λ f. n (which ∙ f))) h.memory (omega arith) (λ i low high. high);
             lock = h.lock;
             count = h.count;
@@ -116,7 +117,8 @@ module _ (code : List ℕ) (q e : ℕ) (s a : State) (h : Match code q e s a) wh
         set_on (Some (operate op ra src rc)) rc _ _ is (λ f. cc) refl
         (ap (λ x. result_of g.image.level op x (source_value a.regs src) (reg a.regs rc)) one
         ∙ (ap (λ y. result_of g.image.level op (reg s.regs ra) y (reg a.regs rc)) two
-        ∙ same_result g.image.level op (reg s.regs ra) (source_value s.regs src) (reg a.regs rc) (reg s.regs rc)
+        ∙ result_of-old_unused g.image.level op (reg s.regs ra) (source_value s.regs src) (reg a.regs rc)
+        (reg s.regs rc)
         (λ move. read_at (Some (operate op ra src rc)) rc is
         (λ low. counts_moved (is_move op) ra rc (source_registers src) move low))))
 
@@ -172,11 +174,11 @@ module _ (code : List ℕ) (q e : ℕ) (s a : State) (h : Match code q e s a) wh
         let fine_too = ap (λ n. fault_of (shapes a.mem) Load n c.bytes) where_too
         ∙ granted_there code q e s.regs s.mem a.mem c h.memory less accesses kinds.Load kind_is in
         let value : loaded extension c a ≡ loaded extension c s =
-        loaded_is extension c a
+        loaded_filled extension c a
         ∙ (ap (λ n. filled extension (little (bytes_at a.mem n c.bytes))) where_too
         ∙ (ap (λ l. filled extension (little l))
         (same_loaded code q e s.regs s.mem a.mem c h.memory less accesses kind_is)
-        ∙ sym (loaded_is extension c s))) in
+        ∙ sym (loaded_filled extension c s))) in
         subst (λ x. BothWent code (q + 1) e s a x (step g (Some (load extension c ra)) a input))
         (granted _ (accessed c s) s (setting s ra (loaded extension c s)) fine)
         (subst (λ y. BothWent code (q + 1) e s a (went (setting s ra (loaded extension c s))) y)
@@ -186,7 +188,7 @@ module _ (code : List ℕ) (q e : ℕ) (s a : State) (h : Match code q e s a) wh
     -- the registers behind a word that sets none
     alike_unset : (o : Option Class) → class_at code q ≡ o → sets o ≡ None → Alike code (q + 1) e s.regs a.regs
     alike_unset o is none =
-        alike_on code q e s.regs a.regs s.regs a.regs h.registers less h.registers.size h.registers.size_too
+        Alike-next_word code q e s.regs a.regs s.regs a.regs h.registers less h.registers.size h.registers.size_too
         (λ x n. refl) (λ x n. refl)
         (λ x f. let g : None ≡ Some x = sym none ∙ (ap sets (sym is) ∙ f) in cc)
 
@@ -238,7 +240,7 @@ module _ (code : List ℕ) (q e : ℕ) (s a : State) (h : Match code q e s a) wh
       matched = record {
         registers = alike_unset (Some idle) is refl;
         memory =
-            bytes_on code q e e s.regs s.regs s.mem a.mem
+            SameBytes-next_word code q e e s.regs s.regs s.mem a.mem
             (λ f. let u : kind (Some idle) ≡ Some kinds.Store = ap kind (sym is) ∙ f in cc) (λ x n. refl) h.memory
             (omega arith) (λ i low high. high);
         lock = h.lock;

@@ -282,7 +282,9 @@ locked_words-alone _ n = refl
 
 needs_locked : Needs Locked
 unfolding imprecise_end sequential_end
-needs_locked = by_end Locked Wrap locked_words (0 ∷ 1 ∷ 7 ∷ []) (Exit 7) (Exit 0) locked_words-good locked_words-alone refl refl (λ e. cc)
+needs_locked =
+    by_end Locked Wrap locked_words (0 ∷ 1 ∷ 7 ∷ []) (Exit 7) (Exit 0) locked_words-good locked_words-alone refl refl
+    (λ e. cc)
 
 -- C7: `addq/v $1,$2,$3; br $31,.+4; trapb`: the scan stops at the branch
 abbrev turn_words : List ℕ
@@ -300,7 +302,9 @@ turn_words-alone _ n = refl
 
 needs_turn : Needs Turn
 unfolding lost_trap_of
-needs_turn = by_loss Turn Wrap turn_words (0 ∷ 1 ∷ 0 ∷ []) (record { pc = 65556; mask = 8 }) turn_words-good turn_words-alone refl
+needs_turn =
+    by_loss Turn Wrap turn_words (0 ∷ 1 ∷ 0 ∷ [])
+    (record { pc = 65556; mask = 8 }) turn_words-good turn_words-alone refl
 
 -- C8 and C9 aren't needed
 pub condition-needed : (c : Condition) → condition_number c ≤ 7 → Needs c

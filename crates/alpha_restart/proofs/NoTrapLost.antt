@@ -121,8 +121,8 @@ sure_found g w (ended over never) pc mask = never pc mask
 sure_found g w (sure_with_nothing_pending none going) pc mask = not_lost w.last_event pc mask going
 sure_found g w (trailing place at h) pc mask = not_lost w.last_event pc mask h.going
 
-pub accepted_found : (image : Parts) → IsImage image → IsAccepted image.words → NeverLoses image
-accepted_found image good accepted = λ completion s steps w pc mask run.
+pub IsAccepted-NeverLoses : (image : Parts) → IsImage image → IsAccepted image.words → NeverLoses image
+IsAccepted-NeverLoses image good accepted = λ completion s steps w pc mask run.
     let g : Program = record { image = image; completion = completion } in
     sure_found g w
     (sure_run g good (safe image.words accepted) steps (imprecise_start s) w (sure_with_nothing_pending refl refl) run)

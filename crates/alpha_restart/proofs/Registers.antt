@@ -7,9 +7,10 @@ use Rattle.alpha_words.specs.Regs.{reg, put}
 use Rattle.alpha_table.specs.Uses.{but_zero}
 
 -- whether an option has a number is decided
-pub has_cases : (o : Option ℕ) (r : ℕ) → (o ≡ Some r) ⊎ (o ≢ Some r)
-has_cases None r = inr (λ e. cc)
-has_cases (Some x) r = ⊎_elim (λ (e : x ≡ r). inl (ap Some e)) (λ (n : x ≡ r → ⊥). inr (λ e. n cc)) (cases_eq x r)
+pub option-equal_or_not : (o : Option ℕ) (r : ℕ) → (o ≡ Some r) ⊎ (o ≢ Some r)
+option-equal_or_not None r = inr (λ e. cc)
+option-equal_or_not (Some x) r =
+    ⊎_elim (λ (e : x ≡ r). inl (ap Some e)) (λ (n : x ≡ r → ⊥). inr (λ e. n cc)) (cases_eq x r)
 
 -- what a word sets is what its write changes
 unset_by : (file : List ℕ) (r x v : ℕ) (b : Bool) → cond b None (Some r) ≢ Some x
@@ -46,15 +47,15 @@ unfolding reg put
 reg-put_both file other r x v e size also = set_by file other r x v (eqb r 31) e size also
 
 -- no register is set that is not below 31 or past the file
-pub never_zero : (r : ℕ) → but_zero (Some r) ≢ Some 31
-never_zero r e = by (eqb r 31) refl e
+pub but_zero-not_31 : (r : ℕ) → but_zero (Some r) ≢ Some 31
+but_zero-not_31 r e = by (eqb r 31) refl e
   where
     by : (b : Bool) → eqb r 31 ≡ b → cond b None (Some r) ≡ Some 31 → ⊥
     by true t f = cc
     by false t f = let same : r ≡ 31 = cc in let u = ap (λ k. eqb k 31) same in cc
 
-pub counted_set : (r : ℕ) → r < 31 → but_zero (Some r) ≡ Some r
-counted_set r small = by (eqb r 31) refl
+pub but_zero-below_31 : (r : ℕ) → r < 31 → but_zero (Some r) ≡ Some r
+but_zero-below_31 r small = by (eqb r 31) refl
   where
     by : (b : Bool) → eqb r 31 ≡ b → cond b None (Some r) ≡ Some r
     by true t = let same = eqb-true r 31 t in absurd (omega arith)

@@ -19,9 +19,9 @@ use Rattle.alpha_restart.specs.Safe.{Shadowed, IsSafe, steady_kind, Steady, is_s
 use Rattle.alpha_restart.specs.Match.{Dead, Alike}
 use Rattle.alpha_restart.specs.Trigger.{Trigger, trigger_word, trigger_value}
 use Rattle.alpha_restart.specs.Shadow.{Shadow}
-use Rattle.alpha_restart.proofs.Registers.{has_cases, reg-past, reg-put_unset, counted_set}
+use Rattle.alpha_restart.proofs.Registers.{option-equal_or_not, reg-past, reg-put_unset, but_zero-below_31}
 use Rattle.alpha_restart.proofs.SourcesAlike.{counts_first, source_used, counts_source, set_not_31}
-use Rattle.alpha_restart.proofs.RegistersAlike.{dead_on, dead_more, steady_more}
+use Rattle.alpha_restart.proofs.RegistersAlike.{Dead-next_word, dead_more, Steady-next_word}
 use Rattle.alpha_restart.proofs.BytesAlike.{SameUnset}
 
 -- steady words run straight on
@@ -63,7 +63,7 @@ module _ (code : List ℕ) (safe : IsSafe code) (completion : Completion) (p : �
       (cases_eq x 31))
       (cases_lt x 31))
       (λ (n : sets (class_at code i) ≢ Some x). same_unset x n)
-      (has_cases (sets (class_at code i)) x)
+      (option-equal_or_not (sets (class_at code i)) x)
 
   second_same : (i : ℕ) (src : Src) (a b : List ℕ) → t.src ≡ src → Shadowed code p i → length a ≡ 32 → length b ≡ 32
       → SameUnset code i a b
@@ -92,7 +92,7 @@ module _ (code : List ℕ) (safe : IsSafe code) (completion : Completion) (p : �
   first_below r zero = inl (λ k low high. absurd (omega arith))
   first_below r (suc n) = ⊎_elim
       (λ (none : (k : ℕ) → p < k → k < n → sets (class_at code k) ≢ Some r).
-      last none (has_cases (sets (class_at code n)) r) (cases_lt p n))
+      last none (option-equal_or_not (sets (class_at code n)) r) (cases_lt p n))
       (λ (f : (f : First r) × (f.at < n)). inr (f.0, (let low : f.0.at < n = f.1 in omega arith)))
       (first_below r n)
     where
@@ -137,7 +137,7 @@ module _ (code : List ℕ) (safe : IsSafe code) (completion : Completion) (p : �
 
   -- what the trigger sets is its destination
   own_set : t.rc < 31 → sets (class_at code p) ≡ Some t.rc
-  own_set low = ap sets word ∙ counted_set t.rc low
+  own_set low = ap sets word ∙ but_zero-below_31 t.rc low
 
   -- ---- the window
 
@@ -161,10 +161,10 @@ module _ (code : List ℕ) (safe : IsSafe code) (completion : Completion) (p : �
         registers = λ r n. ⊎_elim
             (λ (e : reg a r ≡ reg s r).
             inl (reg-put_other a t.rc r v n ∙ (e ∙ sym (reg-put_other s t.rc r (trigger_value completion t s) n))))
-            (λ (d : Dead code p e r). inr (dead_on code p e (max e (p + 1)) r
+            (λ (d : Dead code p e r). inr (Dead-next_word code p e (max e (p + 1)) r
             (λ f. n (let f' : Some r ≡ Some t.rc = sym f ∙ own_set low in cc)) d (omega arith)))
             (h.registers r);
-        steady = steady_more code p p e h.steady h.order (ap is_steady word);
+        steady = Steady-next_word code p p e h.steady h.order (ap is_steady word);
         value =
             value_same p a (put a t.rc v)
             (Steady-Shadowed code p p t word (omega arith) (λ k above below. absurd (omega arith))) h.size_too also
@@ -179,7 +179,7 @@ module _ (code : List ℕ) (safe : IsSafe code) (completion : Completion) (p : �
       → SameUnset code i a b
       → Shadow code completion p i e t s a → Shadow code completion p (i + 1) (max e (i + 1)) t s b
   wait_shadow i e s a b here also same_unset h =
-      let more : Steady code p (max e (i + 1)) = steady_more code p i e h.steady h.order here in
+      let more : Steady code p (max e (i + 1)) = Steady-next_word code p i e h.steady h.order here in
       record {
         order = omega arith;
         above = let up = h.above in omega arith;
@@ -194,7 +194,7 @@ module _ (code : List ℕ) (safe : IsSafe code) (completion : Completion) (p : �
             (λ (same : reg a r ≡ reg s r). inl (same_unset r unset ∙ same))
             (λ (d : Dead code (p + 1) e r). inr (dead_more code (p + 1) e (max e (i + 1)) r d (omega arith)))
             (h.registers r n))
-            (has_cases (sets (class_at code i)) r);
+            (option-equal_or_not (sets (class_at code i)) r);
         steady = more;
         value =
             value_same i a b (Steady-Shadowed code p i t word (let up = h.above in omega arith)

@@ -15,7 +15,7 @@ use Rattle.alpha_table.specs.Uses.{source_registers, is_move, written_register, 
 use Rattle.alpha_values.specs.Op.{result_of}
 use Rattle.alpha_values.specs.Source.{source_value}
 use Rattle.alpha_restart.specs.Match.{Dead, Alike}
-use Rattle.alpha_restart.proofs.Registers.{reg-past, never_zero}
+use Rattle.alpha_restart.proofs.Registers.{reg-past, but_zero-not_31}
 
 -- ---- registers that count
 
@@ -55,11 +55,11 @@ set_not_31 (Some class) e = by (written_register class) e
   where
     by : (o : Option ℕ) → but_zero o ≢ Some 31
     by None e = cc
-    by (Some r) e = never_zero r e
+    by (Some r) e = but_zero-not_31 r e
 
-pub same_read : (code : List ℕ) (q e x : ℕ) (s a : List ℕ) → Alike code q e s a
+pub Alike-read_register : (code : List ℕ) (q e x : ℕ) (s a : List ℕ) → Alike code q e s a
     → (x < 31 → uses (class_at code q) x ≡ true) → reg a x ≡ reg s x
-same_read code q e x s a h used = by (h.registers x)
+Alike-read_register code q e x s a h used = by (h.registers x)
   where
     by : (reg a x ≡ reg s x) ⊎ Dead code q e x → reg a x ≡ reg s x
     by (inl same) = same
@@ -73,19 +73,19 @@ same_read code q e x s a h used = by (h.registers x)
 
 pub source_value-Alike : (code : List ℕ) (q e : ℕ) (src : Src) (s a : List ℕ) → Alike code q e s a
     → ((x : ℕ) → src ≡ Reg x → x < 31 → uses (class_at code q) x ≡ true) → source_value a src ≡ source_value s src
-source_value-Alike code q e (Reg x) s a h used = same_read code q e x s a h (λ low. used x refl low)
+source_value-Alike code q e (Reg x) s a h used = Alike-read_register code q e x s a h (λ low. used x refl low)
 source_value-Alike code q e (Lit n) s a h used = refl
 
 -- only a conditional move's result depends on what its destination had
-pub same_result : (level : Level) (op : Op) (a b old new : ℕ) → (is_move op ≡ true → old ≡ new)
+pub result_of-old_unused : (level : Level) (op : Op) (a b old new : ℕ) → (is_move op ≡ true → old ≡ new)
     → result_of level op a b old ≡ result_of level op a b new
 unfolding result_of
-same_result level ops.Cmovlbs a b old new h = ap (λ o. result_of level ops.Cmovlbs a b o) (h refl)
-same_result level ops.Cmovlbc a b old new h = ap (λ o. result_of level ops.Cmovlbc a b o) (h refl)
-same_result level ops.Cmoveq a b old new h = ap (λ o. result_of level ops.Cmoveq a b o) (h refl)
-same_result level ops.Cmovne a b old new h = ap (λ o. result_of level ops.Cmovne a b o) (h refl)
-same_result level ops.Cmovlt a b old new h = ap (λ o. result_of level ops.Cmovlt a b o) (h refl)
-same_result level ops.Cmovle a b old new h = ap (λ o. result_of level ops.Cmovle a b o) (h refl)
-same_result level ops.Cmovge a b old new h = ap (λ o. result_of level ops.Cmovge a b o) (h refl)
-same_result level ops.Cmovgt a b old new h = ap (λ o. result_of level ops.Cmovgt a b o) (h refl)
-same_result level _ a b old new h = refl
+result_of-old_unused level ops.Cmovlbs a b old new h = ap (λ o. result_of level ops.Cmovlbs a b o) (h refl)
+result_of-old_unused level ops.Cmovlbc a b old new h = ap (λ o. result_of level ops.Cmovlbc a b o) (h refl)
+result_of-old_unused level ops.Cmoveq a b old new h = ap (λ o. result_of level ops.Cmoveq a b o) (h refl)
+result_of-old_unused level ops.Cmovne a b old new h = ap (λ o. result_of level ops.Cmovne a b o) (h refl)
+result_of-old_unused level ops.Cmovlt a b old new h = ap (λ o. result_of level ops.Cmovlt a b o) (h refl)
+result_of-old_unused level ops.Cmovle a b old new h = ap (λ o. result_of level ops.Cmovle a b o) (h refl)
+result_of-old_unused level ops.Cmovge a b old new h = ap (λ o. result_of level ops.Cmovge a b o) (h refl)
+result_of-old_unused level ops.Cmovgt a b old new h = ap (λ o. result_of level ops.Cmovgt a b o) (h refl)
+result_of-old_unused level _ a b old new h = refl

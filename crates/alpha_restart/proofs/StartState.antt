@@ -19,9 +19,9 @@ use Rattle.alpha_image.proofs.SegmentShares.{length-pieces_of}
 use Rattle.alpha_seq.specs.State.{Program}
 use Rattle.alpha_seq.specs.Start.{stack_end, start_memory, start_regs, start}
 use Rattle.alpha_seq.specs.StartMemory.{memory_before}
-use Rattle.alpha_seq.proofs.ImageLoads.{code_aligned, code_below, code_first, segment-addable, stack_aligned}
+use Rattle.alpha_seq.proofs.ImageLoads.{code_aligned, code_below, memory_before-zero, segment-addable, stack_aligned}
 use Rattle.alpha_seq.proofs.ImageLoads.{stack_below}
-use Rattle.alpha_seq.proofs.ImageLoads.{stack_free, stack_last}
+use Rattle.alpha_seq.proofs.ImageLoads.{stack_free, start_memory-stack_last}
 use Rattle.alpha_restart.specs.Invariant.{IsReady}
 
 -- ---- a block more
@@ -77,7 +77,7 @@ no_blocks = record { aligned = All-nil _; below = All-nil _; apart = λ x. omega
 module _ (p : Parts) (good : IsImage p) where
   code_layout : IsLayout (shapes (memory_before p 0))
   code_layout =
-      subst (λ m. IsLayout (shapes m)) (code_first p)
+      subst (λ m. IsLayout (shapes m)) (memory_before-zero p)
       (block_more [] p.code_base (flat_map longword p.words) 0 false no_blocks (code_aligned p good)
       (let below = code_below p good in omega arith) (λ x low high. refl))
 
@@ -102,7 +102,7 @@ module _ (p : Parts) (good : IsImage p) where
 
   start_layout : IsLayout (shapes (start_memory p))
   start_layout =
-      subst (λ m. IsLayout (shapes m)) (stack_last p)
+      subst (λ m. IsLayout (shapes m)) (start_memory-stack_last p)
       (block_more (memory_before p (length p.segments)) (2 ^ 30 - p.stack) [] p.stack true
       (segments_layout (length p.segments) (omega arith))
       (stack_aligned p good) (stack_below p good) (stack_free p good))
@@ -113,5 +113,5 @@ start_size p =
     length-put (put (replicate 32 0) 27 p.entry) 30 stack_end
     ∙ (length-put (replicate 32 0) 27 p.entry ∙ length-replicate {A = ℕ} 32 0)
 
-pub ready_start : (g : Program) → IsImage g.image → IsReady (start g)
-ready_start g good = record { size = start_size g.image; layout = start_layout g.image good }
+pub IsReady-start : (g : Program) → IsImage g.image → IsReady (start g)
+IsReady-start g good = record { size = start_size g.image; layout = start_layout g.image good }

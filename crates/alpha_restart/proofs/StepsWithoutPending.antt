@@ -17,7 +17,7 @@ use Rattle.alpha_restart.specs.Match.{Match}
 use Rattle.alpha_restart.specs.Trigger.{Trigger, trigger_word, trigger_value}
 use Rattle.alpha_restart.specs.Invariant.{Window, Stopping, Together, window, stopping}
 use Rattle.alpha_restart.proofs.Registers.{reg-put_unset}
-use Rattle.alpha_restart.proofs.BytesAlike.{bytes_on}
+use Rattle.alpha_restart.proofs.BytesAlike.{SameBytes-next_word}
 use Rattle.alpha_restart.proofs.MatchedSteps.{same_ra, same_src}
 use Rattle.alpha_restart.proofs.Shadows.{trigger_shadow}
 use Rattle.alpha_restart.proofs.ImagePlaces.{next_address, steady_within}
@@ -53,7 +53,7 @@ module _ (g : Program) (good : IsImage g.image) (safe : IsSafe g.image.words) wh
           (counted g good safe q t word)
           (same_ra_at) (same_src_at);
       memory =
-          bytes_on g.image.words q e (max e (q + 1)) r.state.regs
+          SameBytes-next_word g.image.words q e (max e (q + 1)) r.state.regs
           (put r.state.regs t.rc (trigger_value g.completion t r.state.regs)) r.state.mem w.state.mem
           (λ f. let f' : kind (trigger_word t) ≡ Some kinds.Store = ap kind (sym word) ∙ f in cc)
           (same_unset_by (trigger_value g.completion t r.state.regs)) h.memory

@@ -20,15 +20,15 @@ use Rattle.alpha_restart.specs.Safe.{IsSafe}
 use Rattle.alpha_restart.specs.Match.{Match}
 use Rattle.alpha_restart.specs.Trigger.{Trigger, trigger_value}
 use Rattle.alpha_restart.specs.Invariant.{IsReady, Exact, Together, exact}
-use Rattle.alpha_restart.proofs.RegistersAlike.{alike_same, alike_end}
-use Rattle.alpha_restart.proofs.BytesAlike.{bytes_same, bytes_end}
+use Rattle.alpha_restart.proofs.RegistersAlike.{Alike-refl, Alike-end}
+use Rattle.alpha_restart.proofs.BytesAlike.{SameBytes-refl, SameBytes-end}
 use Rattle.alpha_restart.proofs.StepsWithoutPending.{overflows}
 
 -- a state is matched with itself
 match_same : (code : List ℕ) (q : ℕ) (s : State) → IsReady s → Match code q q s s
 match_same code q s h = record {
-  registers = alike_same code q s.regs h.size;
-  memory = bytes_same code q s.regs s.mem h.layout;
+  registers = Alike-refl code q s.regs h.size;
+  memory = SameBytes-refl code q s.regs s.mem h.layout;
   lock = refl;
   count = refl;
   logged = refl;
@@ -51,8 +51,8 @@ same_state s a regs pc mem unique lock count logged =
 
 pub match_end : (code : List ℕ) (q : ℕ) (s a : State) → Match code q q s a → a.pc ≡ s.pc → a ≡ s
 match_end code q s a h pc =
-    same_state s a (alike_end code q s.regs a.regs h.registers) pc
-    (bytes_end code q s.regs s.mem a.mem h.memory) h.unique h.lock h.count h.logged
+    same_state s a (Alike-end code q s.regs a.regs h.registers) pc
+    (SameBytes-end code q s.regs s.mem a.mem h.memory) h.unique h.lock h.count h.logged
 
 -- the step of a trigger that overflows
 pub overflowed-cond : (completion : Completion) (s : State) (rc v : ℕ) (b : Bool) → b ≡ true

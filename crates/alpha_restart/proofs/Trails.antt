@@ -11,32 +11,32 @@ use Rattle.alpha_table.specs.Code.{class_at, trap_rc}
 use Rattle.alpha_image.specs.Parts.{IsImage, place_of}
 use Rattle.alpha_seq.specs.State.{Program, State}
 use Rattle.alpha_imprecise.specs.StepResult.{with_register, Choice, StepResult}
-use Rattle.alpha_imprecise.specs.Step.{destination, triggered, address_at, unpredictable_state, waited}
+use Rattle.alpha_imprecise.specs.Step.{trap_destination, triggered, address_at, unpredictable_state, waited}
 use Rattle.alpha_imprecise.specs.ImpreciseState.{mask_after}
 use Rattle.alpha_restart.specs.Safe.{IsSafe, is_steady}
 use Rattle.alpha_restart.specs.Trigger.{Trigger, trigger_word}
 use Rattle.alpha_restart.specs.Invariant.{Trail}
-use Rattle.alpha_restart.proofs.CodeWordBounds.{low_destination}
+use Rattle.alpha_restart.proofs.CodeWordBounds.{trap_rc-lt}
 use Rattle.alpha_restart.proofs.ImagePlaces.{place_within, next_address, steady_within}
 
 -- ---- masks
 
-pub still_has : (mask r x : ℕ) → Has mask x → Has (with_register mask r) x
-still_has mask r x h = by (eqb r 31)
+pub with_register-keeps : (mask r x : ℕ) → Has mask x → Has (with_register mask r) x
+with_register-keeps mask r x h = by (eqb r 31)
   where
     by : (b : Bool) → Has (cond b mask (bit_or mask (2 ^ r))) x
     by true = h
     by false = (Has-or mask (2 ^ r) x).1 (inl h)
 
-pub with_has : (mask r : ℕ) → r < 31 → Has (with_register mask r) r
-with_has mask r low = by (eqb r 31) refl
+pub with_register-has : (mask r : ℕ) → r < 31 → Has (with_register mask r) r
+with_register-has mask r low = by (eqb r 31) refl
   where
     by : (b : Bool) → eqb r 31 ≡ b → Has (cond b mask (bit_or mask (2 ^ r))) r
     by true e = let same = eqb-true r 31 e in absurd (omega arith)
     by false e = (Has-or mask (2 ^ r) r).1 (inr (bit_at-pow_same r))
 
-pub with_only : (mask r x : ℕ) → Has (with_register mask r) x → Has mask x ⊎ (x ≡ r)
-with_only mask r x h = by (eqb r 31) h
+pub with_register-only : (mask r x : ℕ) → Has (with_register mask r) x → Has mask x ⊎ (x ≡ r)
+with_register-only mask r x h = by (eqb r 31) h
   where
     by : (b : Bool) → Has (cond b mask (bit_or mask (2 ^ r))) x → Has mask x ⊎ (x ≡ r)
     by true f = inl f
@@ -49,7 +49,7 @@ none_in_zero : (x : ℕ) → Has 0 x → ⊥
 none_in_zero x h = let e = bit_at-zero x in omega arith
 
 -- the destination of a word, where it is a register that counts
-destination_is : (o : Option Class) (r : ℕ) → r < 31 → r ≡ destination o → trap_rc o ≡ Some r
+destination_is : (o : Option Class) (r : ℕ) → r < 31 → r ≡ trap_destination o → trap_rc o ≡ Some r
 destination_is o r low e = by (trap_rc o) e
   where
     by : (d : Option ℕ) → r ≡ unwrap_or d 31 → d ≡ Some r
@@ -63,7 +63,7 @@ module _ (g : Program) (good : IsImage g.image) (safe : IsSafe g.image.words) wh
   pub counted : (q : ℕ) (t : Trigger) → class_at g.image.words q ≡ trigger_word t → t.rc < 31
   counted q t word =
       let is : trap_rc (class_at g.image.words q) ≡ Some t.rc = ap trap_rc word in
-      let low = low_destination g.image.words q t.rc is in
+      let low = trap_rc-lt g.image.words q t.rc is in
       let apart : t.rc ≢ 31 = λ e. safe.zero q (is ∙ ap Some e) in
       omega arith
 
@@ -87,11 +87,11 @@ module _ (g : Program) (good : IsImage g.image) (safe : IsSafe g.image.words) wh
             subst (λ j. is_steady (class_at g.image.words j) ≡ true) (let same : q ≡ k = omega arith in same) here;
         destination = ap trap_rc word;
         counted = counted q t word;
-        has = with_has 0 t.rc (counted q t word);
+        has = with_register-has 0 t.rc (counted q t word);
         covers = λ r small h. ⊎_elim
             (λ (p : Has 0 r). absurd (none_in_zero r p))
             (λ (same : r ≡ t.rc). (q, omega arith, omega arith, ap trap_rc word ∙ ap Some (sym same)))
-            (with_only 0 t.rc r h);
+            (with_register-only 0 t.rc r h);
       }
 
   -- over a word that waits
@@ -122,7 +122,7 @@ module _ (g : Program) (good : IsImage g.image) (safe : IsSafe g.image.words) wh
       }
     where
       has_by : (b : Bool) → Has (mask_after (class_at g.image.words i) h.mask b) h.rc
-      has_by true = still_has h.mask (destination (class_at g.image.words i)) h.rc h.has
+      has_by true = with_register-keeps h.mask (trap_destination (class_at g.image.words i)) h.rc h.has
       has_by false = h.has
 
       old : (r : ℕ) → r < 31 → Has h.mask r
@@ -133,11 +133,11 @@ module _ (g : Program) (good : IsImage g.image) (safe : IsSafe g.image.words) wh
           → (k : ℕ) × (p ≤ k) × (k < i + 1) × (trap_rc (class_at g.image.words k) ≡ Some r)
       covers_by true r small f = ⊎_elim
           (λ (q : Has h.mask r). old r small q)
-          (λ (same : r ≡ destination (class_at g.image.words i)). (
+          (λ (same : r ≡ trap_destination (class_at g.image.words i)). (
             i,
             (let above = h.above in omega arith),
             omega arith,
             destination_is (class_at g.image.words i) r small same,
           ))
-          (with_only h.mask (destination (class_at g.image.words i)) r f)
+          (with_register-only h.mask (trap_destination (class_at g.image.words i)) r f)
       covers_by false r small f = old r small f

@@ -11,7 +11,7 @@ use Rattle.alpha_table.specs.Code.{class_at, kind}
 use Rattle.alpha_table.specs.Uses.{access}
 use Rattle.alpha_values.specs.Numbers.{register_of}
 use Rattle.alpha_values.specs.Address.{address_of, access_address, Covers, AccessesMeet}
-use Rattle.alpha_values.proofs.MachineWords.{register_is}
+use Rattle.alpha_values.proofs.MachineWords.{register_of-mod}
 use Rattle.alpha_values.proofs.AddressLemmas.{common-meets}
 use Rattle.alpha_mem.specs.Block.{Block, shapes}
 use Rattle.alpha_mem.specs.Memory.{byte_at, write_bytes}
@@ -27,16 +27,16 @@ address_wrapped : (base : ℕ) (d : ℤ) → FitsSigned w16 d → address_of (ba
 unfolding address_of
 address_wrapped base (pos n) fits =
     let one : register_of (pos (base % 2 ^ 64) +ℤ pos n) ≡ (base % 2 ^ 64 + n) % 2 ^ 64 =
-    register_is _ 0 (base % 2 ^ 64 + n) (omega (arith, ints)) in
+    register_of-mod _ 0 (base % 2 ^ 64 + n) (omega (arith, ints)) in
     let two : register_of (pos base +ℤ pos n) ≡ (base + n) % 2 ^ 64 =
-    register_is _ 0 (base + n) (omega (arith, ints)) in
+    register_of-mod _ 0 (base + n) (omega (arith, ints)) in
     omega arith
 address_wrapped base (negsuc n) fits =
     let few = fits.sfits in
     let one : register_of (pos (base % 2 ^ 64) +ℤ negsuc n) ≡ (base % 2 ^ 64 + (2 ^ 64 - 1 - n)) % 2 ^ 64 =
-    register_is _ 1 (base % 2 ^ 64 + (2 ^ 64 - 1 - n)) (omega (arith, ints)) in
+    register_of-mod _ 1 (base % 2 ^ 64 + (2 ^ 64 - 1 - n)) (omega (arith, ints)) in
     let two : register_of (pos base +ℤ negsuc n) ≡ (base + (2 ^ 64 - 1 - n)) % 2 ^ 64 =
-    register_is _ 1 (base + (2 ^ 64 - 1 - n)) (omega (arith, ints)) in
+    register_of-mod _ 1 (base + (2 ^ 64 - 1 - n)) (omega (arith, ints)) in
     omega arith
 
 access_wrapped : (c : MemAccess) (base : ℕ) → FitsSigned w16 c.disp
@@ -62,10 +62,11 @@ spans_meet a b base y fits also there there_too one other =
 -- ---- the window
 
 -- an end further on, where the accesses on the way are reached
-pub bytes_more : (code : List ℕ) (q e f : ℕ) (regs : List ℕ) (m n : List Block) → SameBytes code q e regs m n → e ≤ f
+pub SameBytes-later_end : (code : List ℕ) (q e f : ℕ) (regs : List ℕ) (m n : List Block) → SameBytes code q e regs m n
+    → e ≤ f
     → ((i : ℕ) (c : MemAccess) → e ≤ i → i < f → access (class_at code i) ≡ Some c → Reached code q i c regs (shapes m))
     → SameBytes code q f regs m n
-bytes_more code q e f regs m n h more reach = record {
+SameBytes-later_end code q e f regs m n h more reach = record {
   blocks = h.blocks;
   layout = h.layout;
   bytes = λ y. ⊎_elim
@@ -94,7 +95,7 @@ module _ (code : List ℕ) (safe : IsSafe code) (p i f : ℕ) (regs : List ℕ) 
   granted_below : (j : ℕ) (d : MemAccess) → p < j → j < f → access (class_at code j) ≡ Some d
       → access_address d (reg regs d.base) + d.bytes ≤ 2 ^ 30
   granted_below j d low high is =
-      mem.granted-below (shapes m) (intent_of (kind (class_at code j)))
+      mem.fault_of-none_below (shapes m) (intent_of (kind (class_at code j)))
       (access_address d (reg regs d.base)) d.bytes h.layout (h.reached j d (omega arith) high is).granted
 
   -- no load before the store reads a byte that it writes

@@ -31,7 +31,7 @@ use Rattle.alpha_restart.proofs.Registers.{reg-put_unset}
 use Rattle.alpha_restart.proofs.SourcesAlike.{counts_first, counts_second}
 use Rattle.alpha_restart.proofs.BytesAlike.{SameUnset}
 use Rattle.alpha_restart.proofs.Shadows.{Steady-Straight, Steady-Shadowed, base_same, wait_shadow}
-use Rattle.alpha_restart.proofs.UnpredictableBytes.{bytes_more, SameBytes-unpredictable}
+use Rattle.alpha_restart.proofs.UnpredictableBytes.{SameBytes-later_end, SameBytes-unpredictable}
 use Rattle.alpha_restart.proofs.Trails.{trail_on}
 
 -- ---- what the word leaves
@@ -131,7 +131,7 @@ module _ (code : List ℕ) (safe : IsSafe code) (completion : _) (p i e : ℕ) (
   more : (o : Option Class) → class_at code i ≡ o
       → ((d : MemAccess) → access o ≡ Some d → Reached code (p + 1) i d s.regs (shapes s.mem))
       → SameBytes code (p + 1) (max e (i + 1)) s.regs s.mem a.mem
-  more o is reached = bytes_more code (p + 1) e (max e (i + 1)) s.regs s.mem a.mem bytes (omega arith)
+  more o is reached = SameBytes-later_end code (p + 1) e (max e (i + 1)) s.regs s.mem a.mem bytes (omega arith)
       (λ j d low high accesses.
       let same : j ≡ i = (let order = h.order in omega arith) in
       subst (λ k. Reached code (p + 1) k d s.regs (shapes s.mem)) (sym same)

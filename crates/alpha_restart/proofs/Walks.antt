@@ -12,7 +12,7 @@ use Rattle.alpha_seq.specs.Start.{start}
 use Rattle.alpha_seq.specs.Step.{lock_block, matches, next_class, step}
 use Rattle.alpha_imprecise.specs.StepResult.{Trap, with_register, Choice, ImpreciseEvent, Precisely, Triggered, Waited}
 use Rattle.alpha_imprecise.specs.StepResult.{Reported, Lost, StepResult}
-use Rattle.alpha_imprecise.specs.Step.{triggers, triggered, destination, precisely, report, can_wait}
+use Rattle.alpha_imprecise.specs.Step.{triggers, triggered, trap_destination, precisely, report, can_wait}
 use Rattle.alpha_imprecise.specs.Step.{unpredictable_state, unpredictable_conditional, waited, imprecise_step}
 use Rattle.alpha_imprecise.specs.ImpreciseState.{mask_after}
 use Rattle.alpha_imprecise.specs.Run.{seen_of, seen, finished, imprecise_start, next_step_result, RunsImprecisely}
@@ -55,7 +55,7 @@ Executed-unpredictable_state (Some (barrier call)) s c small can = cc
 Executed-unpredictable_state (Some idle) s c small can = refl
 
 mask_chosen : (o : Option Class) (mask : ℕ) (adds : Bool)
-    → (mask_after o mask adds ≡ mask) ⊎ (mask_after o mask adds ≡ with_register mask (destination o))
+    → (mask_after o mask adds ≡ mask) ⊎ (mask_after o mask adds ≡ with_register mask (trap_destination o))
 mask_chosen o mask true = inr refl
 mask_chosen o mask false = inl refl
 

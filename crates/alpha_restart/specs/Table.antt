@@ -16,7 +16,7 @@ use Rattle.alpha_seq.specs.Step.{onward, setting, accessed, lock_block, matches,
 use Rattle.alpha_seq.specs.Step.{step}
 use Rattle.alpha_imprecise.specs.StepResult.{Trap, with_register, Choice, ImpreciseEvent, Triggered, Waited, StepResult}
 use Rattle.alpha_imprecise.specs.StepResult.{step_result}
-use Rattle.alpha_imprecise.specs.Step.{triggers, destination, precisely, report, goes_well}
+use Rattle.alpha_imprecise.specs.Step.{triggers, trap_destination, precisely, report, goes_well}
 use Rattle.alpha_imprecise.specs.Run.{finished, seen, imprecise_start}
 use Rattle.alpha_imprecise.specs.Restart.{Agrees}
 
@@ -94,8 +94,9 @@ pub record Overflows (g : Program) (s : State) (pending : Option Trap) (m : Step
   pub value : ℕ
   pub small : value < 2 ^ 64
   pub is : let o = next_class g s.pc in
-      let t : Trap = record { place = unwrap_or (place_of g.image s.pc) 0; mask = with_register 0 (destination o) } in
-      m ≡ step_result (setting s (destination o) value) (Some t) (Triggered 0)
+      let t : Trap =
+      record { place = unwrap_or (place_of g.image s.pc) 0; mask = with_register 0 (trap_destination o) } in
+      m ≡ step_result (setting s (trap_destination o) value) (Some t) (Triggered 0)
 
 -- a pending trap is reported, at any place
 pub record Reports (g : Program) (s : State) (pending : Option Trap) (m : StepResult) : Type 0 where
@@ -110,7 +111,7 @@ pub record Waits (g : Program) (s : State) (pending : Option Trap) (m : StepResu
   pub after : State
   pub executed : Executed (next_class g s.pc) s after
   pub mask : ℕ
-  pub adds : (mask ≡ t.mask) ⊎ (mask ≡ with_register t.mask (destination (next_class g s.pc)))
+  pub adds : (mask ≡ t.mask) ⊎ (mask ≡ with_register t.mask (trap_destination (next_class g s.pc)))
   pub is : m ≡ step_result after (Some (record { place = t.place; mask = mask })) (Waited false 0 0)
 
 -- a row where this is what there is to be read

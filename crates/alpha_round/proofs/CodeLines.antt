@@ -28,7 +28,7 @@ use Rattle.alpha_dis.specs.Listing.{code_line}
 use Rattle.alpha_round.proofs.JoinedLines.{is_inside, AreInside, inside-append}
 use Rattle.alpha_round.proofs.NumberTexts.{decimal-short, decimal-inside}
 use Rattle.alpha_round.proofs.StatementsAlone.{IsLineOf, AreLinesOf}
-use Rattle.alpha_round.proofs.ItemsOfListing.{one_insn}
+use Rattle.alpha_round.proofs.ItemsOfListing.{IsCodeWord-one_insn}
 
 -- ---- the words behind the name
 
@@ -135,6 +135,6 @@ pub code_say : (level : Level) (words : List ℕ) → All (IsCodeWord level) wor
     → AreLinesOf (map code_line words) (map says.code (filter_map decoded words))
 code_say level [] h = tt
 code_say level (w ∷ ws) h =
-    let (i, e, within) = one_insn level w (h 0 0 (omega arith)) in
+    let (i, e, within) = IsCodeWord-one_insn level w (h 0 0 (omega arith)) in
     rw e
     (canon_line i (IsInsn-Row w i (Row-decoded w i e)), code_say level ws (λ k d l. h (suc k) d (omega (arith, l))))

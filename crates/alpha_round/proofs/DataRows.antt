@@ -73,7 +73,8 @@ values_all zero [] h l = refl
 values_all zero (b ∷ row) h l = absurd (omega arith)
 values_all (suc n) [] h l = rw (values-none 1) refl
 values_all (suc n) (b ∷ []) h l =
-    rw (last_value b (All-head b [] h)) (ap (λ vs. listed.number b ∷ vs) (values_all n [] (All-tail b [] h) (omega arith)))
+    rw (last_value b (All-head b [] h))
+    (ap (λ vs. listed.number b ∷ vs) (values_all n [] (All-tail b [] h) (omega arith)))
 values_all (suc n) (b ∷ c ∷ row) h l =
     rw (first_of b (row_text (c ∷ row)) (All-head b (c ∷ row) h))
     (ap (λ vs. listed.number b ∷ vs) (values_all n (c ∷ row) (All-tail b (c ∷ row) h) (omega arith)))
@@ -96,20 +97,21 @@ cells_all (b ∷ row) = ap (λ cs. number 1 b ∷ cs) (cells_all row)
 -- the values of a row are its bytes
 pub row_cells : (row : List ℕ) → All IsByte row → cells (row_statement row) ≡ map (number 1) row
 unfolding cells
-row_cells row h = ap (map (cell_of 1)) (values_all (length (row_text row)) row h (row_text-length row h)) ∙ cells_all row
+row_cells row h =
+    ap (map (cell_of 1)) (values_all (length (row_text row)) row h (row_text-length row h)) ∙ cells_all row
 
 -- ---- how long it is
 
 byte_short : (b : ℕ) → IsByte b → length (decimal b) ≤ 3
 byte_short b h = length-decimal-le 3 b (omega arith) (omega arith) (byte_small b h)
 
-pub row_short : (row : List ℕ) → All IsByte row → length (row_text row) ≤ 4 * length row
-row_short [] h = omega arith
-row_short (b ∷ []) h = omega (arith, byte_short b (All-head b [] h))
-row_short (b ∷ c ∷ row) h = omega (
+pub length-row_text : (row : List ℕ) → All IsByte row → length (row_text row) ≤ 4 * length row
+length-row_text [] h = omega arith
+length-row_text (b ∷ []) h = omega (arith, byte_short b (All-head b [] h))
+length-row_text (b ∷ c ∷ row) h = omega (
   arith,
   byte_short b (All-head b (c ∷ row) h),
-  row_short (c ∷ row) (All-tail b (c ∷ row) h),
+  length-row_text (c ∷ row) (All-tail b (c ∷ row) h),
   length-append (decimal b) (44 ∷ row_text (c ∷ row)),
 )
 

@@ -32,7 +32,8 @@ use Rattle.alpha_text.specs.Statements as says
 use Rattle.alpha_text.specs.Reading.{list_in, with_head, read}
 use Rattle.alpha_text.proofs.FormatOperands.{alone_words}
 use Rattle.alpha_text.specs.SuffixWords.{BeginsWithout}
-use Rattle.alpha_text.proofs.CanonicalTokens.{prefix_len-run, token-next, tokens-space, digit_apart, decimal-digits}
+use Rattle.alpha_text.proofs.CanonicalTokens.{prefix_len-run, token-next, tokens-space, is_ascii_digit-begins_nothing}
+use Rattle.alpha_text.proofs.CanonicalTokens.{decimal-digits}
 use Rattle.alpha_image.specs.Parts.{IsByte}
 use Rattle.alpha_dis.specs.Listing.{hexadecimal, address_line, count_line, byte_line}
 use Rattle.alpha_round.proofs.ListingItems.{statement_line, row_statement}
@@ -40,7 +41,7 @@ use Rattle.alpha_round.proofs.JoinedLines.{AreInside, inside-append}
 use Rattle.alpha_round.proofs.NumberTexts.{IsNumberText, decimal-text, decimal-short, decimal-inside, hexadecimal-text}
 use Rattle.alpha_round.proofs.NumberTexts.{hexadecimal-short, hexadecimal-inside}
 use Rattle.alpha_round.proofs.StatementsAlone.{IsLineOf}
-use Rattle.alpha_round.proofs.DataRows.{row_text, row_follow, row_short, row_inside}
+use Rattle.alpha_round.proofs.DataRows.{row_text, row_follow, length-row_text, row_inside}
 
 -- ---- the name of a directive
 
@@ -72,7 +73,8 @@ record IsDirective (name : List ℕ) (shape : Shape) (say : Slots → List ℕ �
 
 read_own : (name rest : List ℕ) (shape : Shape) (say : Slots → List ℕ → Stmt) (o : Slots) → IsDirective name shape say
     → BeginsWithout goes_on_name rest → eqb (get_or rest 0 0) 58 ≡ false
-    → operands (patterns shape) (tokens rest) ≡ Ok o → read (name ++ rest) ≡ Ok (statement_line (say o (list_in rest o.left)))
+    → operands (patterns shape) (tokens rest) ≡ Ok o
+    → read (name ++ rest) ≡ Ok (statement_line (say o (list_in rest o.left)))
 unfolding read
 read_own name rest shape say o d stop no_colon h = rw (d.token rest stop, no_colon, d.reads rest (tokens rest) o h) refl
 
@@ -84,7 +86,8 @@ slots_of_number v = record nothing { number = Some v; left = 0 }
 -- a piece that alone is a whole pattern
 abbrev number_operand : Shape → Piece → Type 0
 number_operand shape p = (text : List ℕ) (v : Number) → number_of p signs.Plus (number_value text) ≡ Some v
-    → operands (patterns shape) (Next (record { kind = kinds.Number; text = text; rest = [] }) (End 0)) ≡ Ok (slots_of_number v)
+    → operands (patterns shape) (Next (record { kind = kinds.Number; text = text; rest = [] }) (End 0))
+    ≡ Ok (slots_of_number v)
 
 field_operand : number_operand shapes.Field pieces.Whole
 unfolding operands patterns filled
@@ -135,14 +138,17 @@ level_is levels.One = refl
 level_is levels.Two = refl
 
 -- a number in decimal digits, and an address
-IsLineOf-count : (name : List ℕ) (shape : Shape) (say : Slots → List ℕ → Stmt) (p : Piece) (n : ℕ) (v : Number) (s : Stmt)
+IsLineOf-count : (name : List ℕ) (shape : Shape) (say : Slots → List ℕ → Stmt) (p : Piece) (n : ℕ) (v : Number)
+    (s : Stmt)
     → IsDirective name shape say → number_operand shape p → n < 2 ^ 64
-    → number_of p signs.Plus n ≡ Some v → ((list : List ℕ) → say (slots_of_number v) list ≡ s) → IsLineOf (count_line name n) s
+    → number_of p signs.Plus n ≡ Some v → ((list : List ℕ) → say (slots_of_number v) list ≡ s)
+    → IsLineOf (count_line name n) s
 IsLineOf-count name shape say p n v s d operand small value e =
     number_line name (decimal n) shape say p n v s d operand (decimal-text n small) (omega (arith, decimal-short n))
     (decimal-inside n) value e
 
-IsLineOf-address : (name : List ℕ) (shape : Shape) (say : Slots → List ℕ → Stmt) (n : ℕ) (s : Stmt) → IsDirective name shape say
+IsLineOf-address : (name : List ℕ) (shape : Shape) (say : Slots → List ℕ → Stmt) (n : ℕ) (s : Stmt)
+    → IsDirective name shape say
     → number_operand shape pieces.Whole → n < 2 ^ 64
     → ((list : List ℕ) → say (slots_of_number (numbers.Whole n)) list ≡ s) → IsLineOf (address_line name n) s
 IsLineOf-address name shape say n s d operand small e =
@@ -241,14 +247,17 @@ byte_name = record {
 
 pub code_base_line : (n : ℕ) → n < 2 ^ 64 → IsLineOf (address_line (codes ".codebase") n) (says.code_base n)
 code_base_line n h =
-    IsLineOf-address (codes ".codebase") shapes.Field _ n (says.code_base n) code_base_name field_operand h (λ list. refl)
+    IsLineOf-address (codes ".codebase") shapes.Field _ n (says.code_base n) code_base_name field_operand h
+    (λ list. refl)
 
 pub data_base_line : (n : ℕ) → n < 2 ^ 64 → IsLineOf (address_line (codes ".database") n) (says.data_base n)
 data_base_line n h =
-    IsLineOf-address (codes ".database") shapes.Field _ n (says.data_base n) data_base_name field_operand h (λ list. refl)
+    IsLineOf-address (codes ".database") shapes.Field _ n (says.data_base n) data_base_name field_operand h
+    (λ list. refl)
 
 pub entry_line : (n : ℕ) → n < 2 ^ 64 → IsLineOf (address_line (codes ".entry") n) (says.entry_at n)
-entry_line n h = IsLineOf-address (codes ".entry") shapes.Entry _ n (says.entry_at n) entry_name entry_operand h (λ list. refl)
+entry_line n h =
+    IsLineOf-address (codes ".entry") shapes.Entry _ n (says.entry_at n) entry_name entry_operand h (λ list. refl)
 
 pub segment_line : (n : ℕ) → n < 2 ^ 64 → IsLineOf (address_line (codes ".segment") n) (says.segment n)
 segment_line n h =
@@ -256,12 +265,14 @@ segment_line n h =
 
 pub stack_line : (n : ℕ) → n < 2 ^ 64 → IsLineOf (count_line (codes ".stack") n) (says.stack n)
 stack_line n h =
-    IsLineOf-count (codes ".stack") shapes.Field _ pieces.Whole n (numbers.Whole n) (says.stack n) stack_name field_operand h
+    IsLineOf-count (codes ".stack") shapes.Field _ pieces.Whole n (numbers.Whole n)
+    (says.stack n) stack_name field_operand h
     (whole_is n h) (λ list. refl)
 
 pub zero_line : (n : ℕ) → n ≤ 16777216 → IsLineOf (count_line (codes ".zero") n) (says.zero n)
 zero_line n h =
-    IsLineOf-count (codes ".zero") shapes.Zeroed _ pieces.Zeroed n (numbers.Zeroed n) (says.zero n) zero_name zeroed_operand
+    IsLineOf-count (codes ".zero") shapes.Zeroed _ pieces.Zeroed n (numbers.Zeroed n)
+    (says.zero n) zero_name zeroed_operand
     (omega arith) (zeroed_is n h) (λ list. refl)
 
 level_small : (l : Level) → level_number l < 2 ^ 64
@@ -275,7 +286,8 @@ level_line l =
 
 -- ---- a directive alone
 
-IsLineOf-alone : (name : List ℕ) (s : Stmt) → IsDirective name shapes.Alone (λ o list. s) → name ++ [] ≡ name → IsLineOf name s
+IsLineOf-alone : (name : List ℕ) (s : Stmt) → IsDirective name shapes.Alone (λ o list. s) → name ++ [] ≡ name
+    → IsLineOf name s
 IsLineOf-alone name s d same =
     let few : length name ≤ 100 = (let h = d.short in grind (arith, nat_tests)) in
     record {
@@ -302,7 +314,8 @@ row_operands b row h =
 -- a row begins with a digit, which is no blank
 digits_stop : (ds s : List ℕ) → 0 < length ds → all_ascii_digits ds ≡ true → BeginsWithout is_blank (ds ++ s)
 digits_stop [] s some h = absurd (omega arith)
-digits_stop (d ∷ ds) s some h = (digit_apart d (and_parts (is_ascii_digit d) (all_ascii_digits ds) h).0).1
+digits_stop (d ∷ ds) s some h =
+    (is_ascii_digit-begins_nothing d (and_parts (is_ascii_digit d) (all_ascii_digits ds) h).0).1
 
 row_stops : (b : ℕ) (row : List ℕ) → b < 2 ^ 64 → BeginsWithout is_blank (row_text (b ∷ row))
 row_stops b [] h =
@@ -324,7 +337,7 @@ row_line b row few h =
     let r = row_operands b row h in
     let small : b < 2 ^ 64 = omega (arith, h 0 0 (omega arith)) in
     record {
-      short = omega (arith, row_short (b ∷ row) h, length-append (codes ".byte ") (row_text (b ∷ row)));
+      short = omega (arith, length-row_text (b ∷ row) h, length-append (codes ".byte ") (row_text (b ∷ row)));
       inside = inside-append (codes ".byte ") (row_text (b ∷ row)) refl (row_inside (b ∷ row));
       says =
           read_own (codes ".byte") (32 ∷ row_text (b ∷ row)) shapes.Bytes

@@ -30,20 +30,23 @@ use Rattle.alpha_asm.specs.Layout.{Place, Fields, start, layout, placed, end, fi
 use Rattle.alpha_asm.specs.Program.{program_of, names_in, code_in, bytes_in, known, based, own_segments, segments_of}
 use Rattle.alpha_asm.specs.Program.{version_of, data_base_of, numbers_of, program_with, program}
 use Rattle.alpha_asm.specs.Assembled.{assembled_program, made_at}
-use Rattle.alpha_round.proofs.ListingItems.{first_statements, more_heading, piece_statements, statements, listing_items, statement_line}
-use Rattle.alpha_round.proofs.StatementsAlone.{place_behind, behind_all-statement_line, place_behind-append, AreWellPlaced, AreWellPlaced-append, RepeatNoField}
+use Rattle.alpha_round.proofs.ListingItems.{first_statements, more_heading, piece_statements, statements, listing_items}
+use Rattle.alpha_round.proofs.ListingItems.{statement_line}
+use Rattle.alpha_round.proofs.StatementsAlone.{place_behind, behind_all-statement_line, place_behind-append}
+use Rattle.alpha_round.proofs.StatementsAlone.{AreWellPlaced, AreWellPlaced-append, RepeatNoField}
 use Rattle.alpha_round.proofs.StatementsAlone.{RepeatNoField-append, MakesProgram}
 use Rattle.alpha_round.proofs.ListedProgram.{MakesProgram-listing}
 use Rattle.alpha_round.proofs.ListingPlaces.{level_stmt, in_code, in_data, heading_from, heading_fits, heading_singles}
 use Rattle.alpha_round.proofs.ListingPlaces.{insns_place, insns_fit, insns_single}
-use Rattle.alpha_round.proofs.SegmentStatements.{place_behind-level_one, one_fit, PlaceLeads-pieces, segments_fit, pieces_single}
+use Rattle.alpha_round.proofs.SegmentStatements.{place_behind-level_one, AreWellPlaced-level_one, PlaceLeads-pieces}
+use Rattle.alpha_round.proofs.SegmentStatements.{AreWellPlaced-segments, pieces_single}
 
 -- ---- the code
 
 -- the instruction of a code word
-pub one_insn : (level : Level) (w : ℕ) → IsCodeWord level w
+pub IsCodeWord-one_insn : (level : Level) (w : ℕ) → IsCodeWord level w
     → (i : Form) × (decoded w ≡ Some i) × IsWithin (level_of i) level
-one_insn level w h = by (decoded w) refl ((level_in-decoded level w).0 h.1)
+IsCodeWord-one_insn level w h = by (decoded w) refl ((level_in-decoded level w).0 h.1)
   where
     by : (o : Option Form) → decoded w ≡ o → IsSomeAnd o (λ i. IsWithin (level_of i) level)
         → (i : Form) × (decoded w ≡ Some i) × IsWithin (level_of i) level
@@ -55,7 +58,7 @@ insns_within : (level : Level) (words : List ℕ) → All (IsCodeWord level) wor
     → All (λ i. IsWithin (level_of i) level) (filter_map decoded words)
 insns_within level [] h = All-nil (λ i. IsWithin (level_of i) level)
 insns_within level (w ∷ ws) h =
-    let (i, e, x) = one_insn level w (h 0 0 (omega arith)) in
+    let (i, e, x) = IsCodeWord-one_insn level w (h 0 0 (omega arith)) in
     let more = insns_within level ws (λ k d l. h (suc k) d (omega (arith, l))) in
     rw e (All-cons (λ i. IsWithin (level_of i) level) i (filter_map decoded ws) x more)
 
@@ -63,7 +66,7 @@ insns_length : (level : Level) (words : List ℕ) → All (IsCodeWord level) wor
     → length (filter_map decoded words) ≡ length words
 insns_length level [] h = refl
 insns_length level (w ∷ ws) h =
-    let (i, e, x) = one_insn level w (h 0 0 (omega arith)) in
+    let (i, e, x) = IsCodeWord-one_insn level w (h 0 0 (omega arith)) in
     rw e (ap suc (insns_length level ws (λ k d l. h (suc k) d (omega (arith, l)))))
 
 -- ---- the places
@@ -93,7 +96,8 @@ code_place v p =
     ∙ (ap (λ q. place_behind q (behind_heading v p)) (heading_from v p)
     ∙ (place_behind-append (in_code (level_stmt v p) 0) (map says.code (decoded_insns p))
     (flat_map (piece_statements v) (pieces p))
-    ∙ ap (λ q. place_behind q (flat_map (piece_statements v) (pieces p))) (insns_place (level_stmt v p) 0 (decoded_insns p))))
+    ∙ ap (λ q. place_behind q (flat_map (piece_statements v) (pieces p)))
+    (insns_place (level_stmt v p) 0 (decoded_insns p))))
 
 -- the one segment of the first version
 first_place : (n : ℕ) (segments : List Segment) (bytes : List ℕ) → length segments ≡ 1
@@ -117,7 +121,7 @@ first_fit n [] bytes one b = absurd (omega arith)
 first_fit n (s ∷ []) bytes one b =
     subst (AreWellPlaced (in_code None n))
     (sym (append-nil (piece_statements One (record { base = s.base; bytes = take s.filled bytes; zeroed = s.zeroed }))))
-    (one_fit n s.base (take s.filled bytes) s.zeroed (All-take IsByte s.filled bytes b))
+    (AreWellPlaced-level_one n s.base (take s.filled bytes) s.zeroed (All-take IsByte s.filled bytes b))
 first_fit n (s ∷ t ∷ rest) bytes one b = absurd (omega arith)
 
 -- with its base it is the segment of the image
@@ -169,7 +173,8 @@ pieces_fit : (v : Version) (p : Parts) (n : ℕ) → SuitsVersion v (numbers p) 
     → All IsByte p.bytes → AreWellPlaced (in_code (level_stmt v p) n) (flat_map (piece_statements v) (pieces p))
 pieces_fit One p n s e b = first_fit n p.segments p.bytes s.1 b
 pieces_fit Two p n s e b =
-    segments_fit (in_code (Some (level_number p.level)) n) (level_number p.level) p.segments p.bytes refl refl e b
+    AreWellPlaced-segments (in_code (Some (level_number p.level)) n)
+    (level_number p.level) p.segments p.bytes refl refl e b
 
 fit_of : (v : Version) (p : Parts) → SuitsVersion v (numbers p) → All (IsCodeWord p.level) p.words
     → length p.bytes ≡ filled_size p.segments → All IsByte p.bytes → AreWellPlaced start (statements_of v p)
@@ -185,9 +190,9 @@ fit_of v p s words e b =
     AreWellPlaced-append start (first_statements v p ++ more_heading p) (behind_heading v p) (heading_fits v p)
     (subst (λ q. AreWellPlaced q (behind_heading v p)) (sym (heading_from v p)) code)
 
-pub all_fit : (p : Parts) → IsImage p → AreWellPlaced start (statements p)
+pub AreWellPlaced-listing : (p : Parts) → IsImage p → AreWellPlaced start (statements p)
 unfolding statements
-all_fit p good = fit_of p.version p good.version good.words good.filled good.bytes
+AreWellPlaced-listing p good = fit_of p.version p good.version good.words good.filled good.bytes
 
 single_of : (v : Version) (p : Parts) → RepeatNoField (fields (layout [])) (statements_of v p)
 single_of v p =
@@ -196,9 +201,9 @@ single_of v p =
     (λ f. RepeatNoField-append f (map says.code (decoded_insns p)) (flat_map (piece_statements v) (pieces p))
     (insns_single f (decoded_insns p)) (λ g. pieces_single v g (pieces p)))
 
-pub all_single : (p : Parts) → RepeatNoField (fields (layout [])) (statements p)
+pub RepeatNoField-listing : (p : Parts) → RepeatNoField (fields (layout [])) (statements p)
 unfolding statements
-all_single p = single_of p.version p
+RepeatNoField-listing p = single_of p.version p
 
 -- ---- the fields
 
@@ -282,7 +287,8 @@ program_again : (p : Parts) → IsImage p → program (listing_items p) (entry_a
 program_again p good =
     let ends = at_end p good in
     let m = all_make p good in
-    let version : version_of (end (listing_items p)).level ≡ p.version = ap version_of ends.level ∙ version_again p.version p in
+    let version : version_of (end (listing_items p)).level ≡ p.version =
+    ap version_of ends.level ∙ version_again p.version p in
     let same : numbers_of (listing_items p) (entry_at p.entry) ≡ numbers p = numbers_again p good ends in
     let code = code_made (statements p) (filter_map decoded p.words) (flat_map (λ q. q.bytes) (pieces p)) m in
     let bytes = bytes_made (statements p) (filter_map decoded p.words) (flat_map (λ q. q.bytes) (pieces p)) m
@@ -292,9 +298,9 @@ program_again p good =
     λ i. program_with (version i) (same i) (code i) (bytes i) in
     whole ∙ ap (λ (l : Level). record (program_of p) { level = l }) (level_again p.level)
 
-pub items_made : (p : Parts) → IsImage p → assembled_program (listing_items p) ≡ Ok (program_of p)
+pub assembled_program-listing_items : (p : Parts) → IsImage p → assembled_program (listing_items p) ≡ Ok (program_of p)
 unfolding assembled_program
-items_made p good =
+assembled_program-listing_items p good =
     let f = fields_stmt p in
     let none : flat_map names_in (layout (listing_items p)) ≡ [] =
     no_names (statements p) (filter_map decoded p.words) (flat_map (λ q. q.bytes) (pieces p)) (all_make p good) in

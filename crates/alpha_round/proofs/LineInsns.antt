@@ -42,8 +42,8 @@ use Rattle.alpha_operands.specs.Operands.{Slots, nothing, filled}
 use Rattle.alpha_operands.specs.Walk.{is_whole, piece_behind, front_after, sign_after, follow}
 use Rattle.alpha_operands.specs.Grammar.{AreOperands}
 use Rattle.alpha_operands.proofs.PatternsApart.{shapes-distinct}
-use Rattle.alpha_operands.proofs.SlotChanges.{a_value, a_label, a_given}
-use Rattle.alpha_operands.proofs.Grammar.{at_end, grammar-took, grammar-went, spells-follow}
+use Rattle.alpha_operands.proofs.SlotChanges.{a_value, cond-ok, ok-injective}
+use Rattle.alpha_operands.proofs.Grammar.{cond-ok_or_fault, grammar-took, grammar-went, spells-follow}
 use Rattle.alpha_operands.proofs.OperandRanges.{if_in-inside, follow-within}
 use Rattle.alpha_text.specs.Heads.{every_pseudo_op, pseudo_op_name, mnemonic_at, pseudo_op_at, head_of, shape_of}
 use Rattle.alpha_text.specs.Statements.{Stmt, reg, displacement_in, words_in, hint_in, jump_hint, source_in, link}
@@ -134,36 +134,36 @@ filled-fits pieces.Operator t sign o r f h =
     let (v, e, k) = a_value (operator_of t.text) UnknownName _ r h in
     rw (← k) (record { ra = f.ra; rb = f.rb; rc = f.rc; field = f.field })
 filled-fits pieces.Label t sign o r f h =
-    let (b, k) = a_label (is_label t.text) _ r h in
+    let (b, k) = cond-ok (is_label t.text) _ r h in
     rw (← k) (record { ra = f.ra; rb = f.rb; rc = f.rc; field = f.field })
 filled-fits pieces.Offset t sign o r f h =
     let (v, e, k) = a_value (offset_of sign (number_value t.text)) OutOfRange _ r h in
     rw (← k) (record { ra = f.ra; rb = f.rb; rc = f.rc; field = f.field })
 filled-fits pieces.Text t sign o r f h =
-    rw (← a_given _ r h) (record { ra = f.ra; rb = f.rb; rc = f.rc; field = f.field })
+    rw (← ok-injective _ r h) (record { ra = f.ra; rb = f.rb; rc = f.rc; field = f.field })
 filled-fits pieces.Comma t sign o r f h =
-    rw (← a_given _ r h) (record { ra = f.ra; rb = f.rb; rc = f.rc; field = f.field })
+    rw (← ok-injective _ r h) (record { ra = f.ra; rb = f.rb; rc = f.rc; field = f.field })
 filled-fits pieces.Again t sign o r f h =
-    rw (← a_given _ r h) (record { ra = f.ra; rb = f.rb; rc = f.rc; field = f.field })
+    rw (← ok-injective _ r h) (record { ra = f.ra; rb = f.rb; rc = f.rc; field = f.field })
 filled-fits pieces.Open t sign o r f h =
-    rw (← a_given _ r h) (record { ra = f.ra; rb = f.rb; rc = f.rc; field = f.field })
+    rw (← ok-injective _ r h) (record { ra = f.ra; rb = f.rb; rc = f.rc; field = f.field })
 filled-fits pieces.Close t sign o r f h =
-    rw (← a_given _ r h) (record { ra = f.ra; rb = f.rb; rc = f.rc; field = f.field })
+    rw (← ok-injective _ r h) (record { ra = f.ra; rb = f.rb; rc = f.rc; field = f.field })
 filled-fits pieces.Minus t sign o r f h =
-    rw (← a_given _ r h) (record { ra = f.ra; rb = f.rb; rc = f.rc; field = f.field })
+    rw (← ok-injective _ r h) (record { ra = f.ra; rb = f.rb; rc = f.rc; field = f.field })
 filled-fits pieces.Plus t sign o r f h =
-    rw (← a_given _ r h) (record { ra = f.ra; rb = f.rb; rc = f.rc; field = f.field })
+    rw (← ok-injective _ r h) (record { ra = f.ra; rb = f.rb; rc = f.rc; field = f.field })
 filled-fits pieces.Less t sign o r f h =
-    rw (← a_given _ r h) (record { ra = f.ra; rb = f.rb; rc = f.rc; field = f.field })
+    rw (← ok-injective _ r h) (record { ra = f.ra; rb = f.rb; rc = f.rc; field = f.field })
 filled-fits pieces.Dot t sign o r f h =
-    rw (← a_given _ r h) (record { ra = f.ra; rb = f.rb; rc = f.rc; field = f.field })
+    rw (← ok-injective _ r h) (record { ra = f.ra; rb = f.rb; rc = f.rc; field = f.field })
 filled-fits p t sign o r f h =
     let (v, e, k) = a_value (number_of p sign (number_value t.text)) OutOfRange _ r h in
     rw (← k) (record { ra = f.ra; rb = f.rb; rc = f.rc; field = number_field p sign (number_value t.text) v e })
 
 follow-fits : (all : List Pattern) (front : Pattern) (sign : Sign) (ts : Tokens) (o r : Slots) → Fits o
     → follow all front sign ts o ≡ Ok r → Fits r
-follow-fits all front sign (End left) o r f h = rw (← (at_end (is_whole all front) o r left h).1) f
+follow-fits all front sign (End left) o r f h = rw (← (cond-ok_or_fault (is_whole all front) o r left h).1) f
 follow-fits all front sign (Bad left) o r f h = cc
 follow-fits all front sign (Next t ts) o r f h =
     let (p, e, g) = grammar-took t sign o (piece_behind all front t.kind)
@@ -203,7 +203,8 @@ hint_of : (rb : Option ℕ) (n : Option Number) → IfSome n IsNumber → jump_h
 hint_of None n h = omega arith
 hint_of (Some r) n h = hint_in-bound n h
 
-source_in-IsSource : (n : Option Number) (rb : Option ℕ) → IfSome n IsField → IfSome rb (λ r. r < 32) → IsSource (source_in n rb)
+source_in-IsSource : (n : Option Number) (rb : Option ℕ) → IfSome n IsField → IfSome rb (λ r. r < 32)
+    → IsSource (source_in n rb)
 source_in-IsSource (Some (numbers.Literal n)) rb h k = h
 source_in-IsSource _ rb h k = plain_register rb k
 
@@ -233,17 +234,20 @@ link_small _ = omega arith
 
 branch_insn : (op : BranchOp) (o : Slots) (label : Option (List ℕ)) → Fits o → IfSome o.number IsNumber
     → SaysInsn (branch_stmt op o label)
-branch_insn op o (Some label) f n = (unwrap_or-register o.ra (link op) f.ra (link_small op), no_displacement 20 (omega arith))
+branch_insn op o (Some label) f n =
+    (unwrap_or-register o.ra (link op) f.ra (link_small op), no_displacement 20 (omega arith))
 branch_insn op o None f n = (unwrap_or-register o.ra (link op) f.ra (link_small op), words_in-IsSigned o.number n)
 
 jump_insn : (kind : JumpKind) (o : Slots) → Fits o → IfSome o.number IsNumber → IsInsn (jump_form kind o)
-jump_insn kind o f n = (plain_register o.ra f.ra, unwrap_or-register o.rb 26 f.rb (omega arith), hint_of o.rb o.number n)
+jump_insn kind o f n =
+    (plain_register o.ra f.ra, unwrap_or-register o.rb 26 f.rb (omega arith), hint_of o.rb o.number n)
 
 operate_insn : (rule : OperandRule) (op : Op) (o : Slots) → (op_row op).operands ≡ rule → Fits o
     → IsInsn (operate_form rule op o)
 operate_insn Any op o e f =
     (plain_register o.ra f.ra, source_in-IsSource o.number o.rb f.field f.rb, plain_register o.rc f.rc, rw e tt)
-operate_insn Unary op o e f = (omega arith, source_in-IsSource o.number o.rb f.field f.rb, plain_register o.rc f.rc, rw e refl)
+operate_insn Unary op o e f =
+    (omega arith, source_in-IsSource o.number o.rb f.field f.rb, plain_register o.rc f.rc, rw e refl)
 operate_insn UnaryRegister op o e f = (omega arith, plain_register o.rb f.rb, plain_register o.rc f.rc, rw e (refl, tt))
 operate_insn Version op o e f =
     (omega arith, (let l : 1 < 256 = omega arith in l), plain_register o.rc f.rc, rw e (refl, refl))

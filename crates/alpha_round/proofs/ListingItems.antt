@@ -45,7 +45,8 @@ piece_statements version piece =
 -- the statements of the lines of a listing
 unfoldable pub statements : Parts → List Stmt
 statements p =
-    heading_statements p ++ (map says.code (filter_map decoded p.words) ++ flat_map (piece_statements p.version) (pieces p))
+    heading_statements p
+    ++ (map says.code (filter_map decoded p.words) ++ flat_map (piece_statements p.version) (pieces p))
 
 -- the items of its lines
 abbrev pub listing_items : Parts → List LineStmt

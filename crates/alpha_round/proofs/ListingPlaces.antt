@@ -62,7 +62,8 @@ unfolding cells
 heading_fits One p = (refl, (refl, (refl, (refl, (refl, tt)))))
 heading_fits Two p = (refl, (refl, (refl, (refl, (refl, tt)))))
 
-pub heading_singles : (v : Version) (p : Parts) → RepeatNoField (fields (layout [])) (first_statements v p ++ more_heading p)
+pub heading_singles : (v : Version) (p : Parts)
+    → RepeatNoField (fields (layout [])) (first_statements v p ++ more_heading p)
 unfolding layout
 heading_singles One p = (refl, (refl, (refl, (refl, (refl, tt)))))
 heading_singles Two p = (refl, (refl, (refl, (refl, (refl, tt)))))

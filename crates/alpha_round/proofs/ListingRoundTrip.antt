@@ -24,8 +24,10 @@ use Rattle.alpha_round.proofs.ListingItems.{first_statements, more_heading, row_
 use Rattle.alpha_round.proofs.ListingItems.{piece_statements}
 use Rattle.alpha_round.proofs.ListingItems.{statements, listing_items}
 use Rattle.alpha_round.proofs.JoinedLines.{lines-text}
-use Rattle.alpha_round.proofs.StatementsAlone.{IsLineOf, AreLinesOf, AreLinesOf-append, all_inside, none_refused}
-use Rattle.alpha_round.proofs.ItemsOfListing.{all_fit, all_single, items_made}
+use Rattle.alpha_round.proofs.StatementsAlone.{IsLineOf, AreLinesOf, AreLinesOf-append, AreLinesOf-AreInside}
+use Rattle.alpha_round.proofs.StatementsAlone.{AreLinesOf-unrefused}
+use Rattle.alpha_round.proofs.ItemsOfListing.{AreWellPlaced-listing, RepeatNoField-listing}
+use Rattle.alpha_round.proofs.ItemsOfListing.{assembled_program-listing_items}
 use Rattle.alpha_round.proofs.DirectiveLines.{code_base_line, data_base_line, entry_line}
 use Rattle.alpha_round.proofs.DirectiveLines.{segment_line as line_of_segment}
 use Rattle.alpha_round.proofs.DirectiveLines.{stack_line, zero_line, level_line, code_line as line_of_code, data_line}
@@ -102,9 +104,9 @@ segments_say v (s ∷ rest) bytes bases few h =
 
 -- ---- the whole
 
-pub all_say : (p : Parts) → IsImage p → AreLinesOf (lines p) (statements p)
+pub AreLinesOf-listing : (p : Parts) → IsImage p → AreLinesOf (lines p) (statements p)
 unfolding lines statements
-all_say p good =
+AreLinesOf-listing p good =
     AreLinesOf-append (heading p) (map code_line p.words ++ flat_map (piece_lines p.version) (pieces p))
     (first_statements p.version p ++ more_heading p)
     (map says.code (filter_map decoded p.words) ++ flat_map (piece_statements p.version) (pieces p))
@@ -116,15 +118,17 @@ all_say p good =
 
 listing_cut : (p : Parts) → IsImage p → cut (listing p) ≡ lines p
 unfolding listing
-listing_cut p good = lines-text (lines p) (all_inside (lines p) (statements p) (all_say p good))
+listing_cut p good = lines-text (lines p) (AreLinesOf-AreInside (lines p) (statements p) (AreLinesOf-listing p good))
 
 lines_taken : (p : Parts) → IsImage p
     → (first_refused source_kinds.Program [] (lines p) ≡ None) × (map item_at (lines p) ≡ listing_items p)
 unfolding end
-lines_taken p good = none_refused [] (lines p) (statements p) (all_say p good) (all_fit p good) (all_single p)
+lines_taken p good =
+    AreLinesOf-unrefused [] (lines p) (statements p) (AreLinesOf-listing p good) (AreWellPlaced-listing p good)
+    (RepeatNoField-listing p)
 
 pub assembled-listing : (p : Parts) → IsImage p → assembled (listing p) ≡ Ok (program_of p)
 unfolding assembled
 assembled-listing p good =
     let (none, same) = lines_taken p good in
-    rw (listing_cut p good, none, same) (items_made p good)
+    rw (listing_cut p good, none, same) (assembled_program-listing_items p good)

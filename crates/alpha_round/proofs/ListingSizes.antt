@@ -14,7 +14,7 @@ use Rattle.alpha_dis.specs.Listing.{ended, text, address_line, count_line, first
 use Rattle.alpha_dis.specs.Listing.{rows, rows_of, piece_lines, lines, listing}
 use Rattle.alpha_round.proofs.ListingItems.{statements}
 use Rattle.alpha_round.proofs.StatementsAlone.{AreLinesOf}
-use Rattle.alpha_round.proofs.ListingRoundTrip.{all_say}
+use Rattle.alpha_round.proofs.ListingRoundTrip.{AreLinesOf-listing}
 
 -- each line has at most 1,024 bytes and its line feed
 text_short : (ls : List (List ℕ)) (ss : List Stmt) → AreLinesOf ls ss → length (text ls) ≤ 1025 * length ls
@@ -74,4 +74,4 @@ lines_few p good =
 
 pub length-listing : (p : Parts) → IsImage p → length (listing p) < 2 ^ 32
 unfolding listing
-length-listing p good = omega (arith, text_short (lines p) (statements p) (all_say p good), lines_few p good)
+length-listing p good = omega (arith, text_short (lines p) (statements p) (AreLinesOf-listing p good), lines_few p good)

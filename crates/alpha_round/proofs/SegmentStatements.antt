@@ -17,7 +17,8 @@ use Rattle.alpha_asm.specs.Statement.{cells}
 use Rattle.alpha_asm.specs.Layout.{Place, Fields, fresh, place_after}
 use Rattle.alpha_dis.specs.Listing.{rows}
 use Rattle.alpha_round.proofs.ListingItems.{row_statement, segment_statement, piece_statements}
-use Rattle.alpha_round.proofs.StatementsAlone.{place_behind, place_behind-append, AreWellPlaced, AreWellPlaced-append, RepeatNoField, RepeatNoField-append}
+use Rattle.alpha_round.proofs.StatementsAlone.{place_behind, place_behind-append, AreWellPlaced, AreWellPlaced-append}
+use Rattle.alpha_round.proofs.StatementsAlone.{RepeatNoField, RepeatNoField-append}
 use Rattle.alpha_round.proofs.ListingPlaces.{in_code, in_data, rows_place, rows_fit, rows_single}
 
 -- the bytes of a segment and its zeroed bytes, as statements
@@ -49,7 +50,8 @@ body_place level n earlier base bytes z b =
 body_fit : (level : Option ℕ) (n : ℕ) (earlier : List Segment) (base : ℕ) (bytes : List ℕ) (z : ℕ) → All IsByte bytes
     → AreWellPlaced (in_data level n earlier (fresh base) false) (segment_statements bytes z)
 body_fit level n earlier base bytes z b =
-    AreWellPlaced-append (in_data level n earlier (fresh base) false) (map row_statement (rows bytes)) (says.zero z ∷ [])
+    AreWellPlaced-append (in_data level n earlier (fresh base) false) (map row_statement (rows bytes))
+    (says.zero z ∷ [])
     (rows_fit level n earlier base 0 ((length bytes + 15) / 16) bytes (length-rounded_up bytes) b)
     (subst (λ q. AreWellPlaced q (says.zero z ∷ []))
     (sym (rows_place level n earlier base 0 ((length bytes + 15) / 16) bytes (length-rounded_up bytes) b)) (refl, tt))
@@ -66,10 +68,12 @@ pub place_behind-level_one : (n base : ℕ) (bytes : List ℕ) (z : ℕ) → All
 place_behind-level_one n base bytes z b =
     ap (λ q. place_behind q (segment_statements bytes z)) (behind_data n) ∙ body_place None n [] 0 bytes z b
 
-pub one_fit : (n base : ℕ) (bytes : List ℕ) (z : ℕ) → All IsByte bytes
+pub AreWellPlaced-level_one : (n base : ℕ) (bytes : List ℕ) (z : ℕ) → All IsByte bytes
     → AreWellPlaced (in_code None n) (piece_statements One (record { base = base; bytes = bytes; zeroed = z }))
-one_fit n base bytes z b =
-    (refl, subst (λ q. AreWellPlaced q (segment_statements bytes z)) (sym (behind_data n)) (body_fit None n [] 0 bytes z b))
+AreWellPlaced-level_one n base bytes z b = (
+  refl,
+  subst (λ q. AreWellPlaced q (segment_statements bytes z)) (sym (behind_data n)) (body_fit None n [] 0 bytes z b),
+)
 
 -- ---- the segments of the second version
 
@@ -140,17 +144,20 @@ PlaceLeads-pieces p (s ∷ rest) bytes h e b =
           ∙ append_assoc p.earlier (p.last ∷ []) (s ∷ rest));
     })
 
-pub segments_fit : (p : Place) (l : ℕ) (segments : List Segment) (bytes : List ℕ) → p.level ≡ Some l → p.begun ≡ true
+pub AreWellPlaced-segments : (p : Place) (l : ℕ) (segments : List Segment) (bytes : List ℕ) → p.level ≡ Some l
+    → p.begun ≡ true
     → length bytes ≡ filled_size segments → All IsByte bytes
     → AreWellPlaced p (flat_map (piece_statements Two) (pieces_of segments bytes))
-segments_fit p l [] bytes f h e b = tt
-segments_fit p l (s ∷ rest) bytes f h e b =
+AreWellPlaced-segments p l [] bytes f h e b = tt
+AreWellPlaced-segments p l (s ∷ rest) bytes f h e b =
     let (size, left) = filled_size-share s rest bytes e in
-    AreWellPlaced-append p (share_statements s bytes) (flat_map (piece_statements Two) (pieces_of rest (drop s.filled bytes)))
+    AreWellPlaced-append p (share_statements s bytes)
+    (flat_map (piece_statements Two) (pieces_of rest (drop s.filled bytes)))
     (two_fit p l s.base (take s.filled bytes) s.zeroed f h (All-take IsByte s.filled bytes b))
     (subst (λ q. AreWellPlaced q (flat_map (piece_statements Two) (pieces_of rest (drop s.filled bytes))))
     (sym (two_place p s.base (take s.filled bytes) s.zeroed h (All-take IsByte s.filled bytes b)))
-    (segments_fit (behind_share p s bytes) l rest (drop s.filled bytes) f refl left (All-drop IsByte s.filled bytes b)))
+    (AreWellPlaced-segments (behind_share p s bytes) l rest (drop s.filled bytes) f refl left
+    (All-drop IsByte s.filled bytes b)))
 
 -- ---- no field is said
 
@@ -160,8 +167,10 @@ start_single Two f base = (refl, tt)
 
 piece_single : (v : Version) (f : Fields) (q : Piece) → RepeatNoField f (piece_statements v q)
 piece_single v f q =
-    RepeatNoField-append f (segment_statement v q.base ∷ []) (segment_statements q.bytes q.zeroed) (start_single v f q.base)
-    (λ g. RepeatNoField-append g (map row_statement (rows q.bytes)) (says.zero q.zeroed ∷ []) (rows_single g (rows q.bytes))
+    RepeatNoField-append f (segment_statement v q.base ∷ []) (segment_statements q.bytes q.zeroed)
+    (start_single v f q.base)
+    (λ g.
+    RepeatNoField-append g (map row_statement (rows q.bytes)) (says.zero q.zeroed ∷ []) (rows_single g (rows q.bytes))
     (λ k. (refl, tt)))
 
 pub pieces_single : (v : Version) (f : Fields) (qs : List Piece) → RepeatNoField f (flat_map (piece_statements v) qs)

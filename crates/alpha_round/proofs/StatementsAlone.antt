@@ -43,7 +43,8 @@ abbrev pub AreWellPlaced : Place → List Stmt → Type 0
 AreWellPlaced p [] = ⊤
 AreWellPlaced p (s ∷ ss) = (is_misplaced p s ≡ false) × AreWellPlaced (place_after p s) ss
 
-pub AreWellPlaced-append : (p : Place) (ss ts : List Stmt) → AreWellPlaced p ss → AreWellPlaced (place_behind p ss) ts → AreWellPlaced p (ss ++ ts)
+pub AreWellPlaced-append : (p : Place) (ss ts : List Stmt) → AreWellPlaced p ss → AreWellPlaced (place_behind p ss) ts
+    → AreWellPlaced p (ss ++ ts)
 AreWellPlaced-append p [] ts f g = g
 AreWellPlaced-append p (s ∷ ss) ts (m, f) g = (m, AreWellPlaced-append (place_after p s) ss ts f g)
 
@@ -52,7 +53,8 @@ abbrev pub RepeatNoField : Fields → List Stmt → Type 0
 RepeatNoField f [] = ⊤
 RepeatNoField f (s ∷ ss) = (repeats_field f s ≡ false) × RepeatNoField (with_fields f s) ss
 
-pub RepeatNoField-append : (f : Fields) (ss ts : List Stmt) → RepeatNoField f ss → ((g : Fields) → RepeatNoField g ts) → RepeatNoField f (ss ++ ts)
+pub RepeatNoField-append : (f : Fields) (ss ts : List Stmt) → RepeatNoField f ss → ((g : Fields) → RepeatNoField g ts)
+    → RepeatNoField f (ss ++ ts)
 RepeatNoField-append f [] ts u v = v f
 RepeatNoField-append f (s ∷ ss) ts (d, u) v = (d, RepeatNoField-append (with_fields f s) ss ts u v)
 
@@ -68,17 +70,18 @@ AreLinesOf [] [] = ⊤
 AreLinesOf (l ∷ ls) (s ∷ ss) = IsLineOf l s × AreLinesOf ls ss
 AreLinesOf _ _ = ⊥
 
-pub AreLinesOf-append : (ls ms : List (List ℕ)) (ss ts : List Stmt) → AreLinesOf ls ss → AreLinesOf ms ts → AreLinesOf (ls ++ ms) (ss ++ ts)
+pub AreLinesOf-append : (ls ms : List (List ℕ)) (ss ts : List Stmt) → AreLinesOf ls ss → AreLinesOf ms ts
+    → AreLinesOf (ls ++ ms) (ss ++ ts)
 AreLinesOf-append [] ms [] ts a b = b
 AreLinesOf-append [] ms (s ∷ ss) ts a b = absurd a
 AreLinesOf-append (l ∷ ls) ms [] ts a b = absurd a
 AreLinesOf-append (l ∷ ls) ms (s ∷ ss) ts (h, a) b = (h, AreLinesOf-append ls ms ss ts a b)
 
-pub all_inside : (ls : List (List ℕ)) (ss : List Stmt) → AreLinesOf ls ss → AllByRecursion AreInside ls
-all_inside [] [] a = tt
-all_inside [] (s ∷ ss) a = absurd a
-all_inside (l ∷ ls) [] a = absurd a
-all_inside (l ∷ ls) (s ∷ ss) (h, a) = (h.inside, all_inside ls ss a)
+pub AreLinesOf-AreInside : (ls : List (List ℕ)) (ss : List Stmt) → AreLinesOf ls ss → AllByRecursion AreInside ls
+AreLinesOf-AreInside [] [] a = tt
+AreLinesOf-AreInside [] (s ∷ ss) a = absurd a
+AreLinesOf-AreInside (l ∷ ls) [] a = absurd a
+AreLinesOf-AreInside (l ∷ ls) (s ∷ ss) (h, a) = (h.inside, AreLinesOf-AreInside ls ss a)
 
 refused-None : (is : List LineStmt) (line : List ℕ) (s : Stmt) → length line ≤ 1024 → read line ≡ Ok (statement_line s)
     → is_misplaced (end is) s ≡ false → repeats_field (fields (layout is)) s ≡ false
@@ -95,18 +98,19 @@ fields-snoc is i = ap fields (layout-snoc is i) ∙ one (layout is) (item_behind
     one : (xs : List Placed) (x : Placed) → fields (xs ++ x ∷ []) ≡ with_fields (fields xs) x.item.statement
     one xs x = simp first-snoc
 
-pub none_refused : (is : List LineStmt) (ls : List (List ℕ)) (ss : List Stmt)
+pub AreLinesOf-unrefused : (is : List LineStmt) (ls : List (List ℕ)) (ss : List Stmt)
     → AreLinesOf ls ss → AreWellPlaced (end is) ss → RepeatNoField (fields (layout is)) ss
     → (first_refused source_kinds.Program is ls ≡ None) × (map item_at ls ≡ map statement_line ss)
-none_refused is [] [] say f u = (refl, refl)
-none_refused is [] (s ∷ ss) say f u = absurd say
-none_refused is (l ∷ ls) [] say f u = absurd say
-none_refused is (l ∷ ls) (s ∷ ss) (line, say) (m, f) (d, u) =
+AreLinesOf-unrefused is [] [] say f u = (refl, refl)
+AreLinesOf-unrefused is [] (s ∷ ss) say f u = absurd say
+AreLinesOf-unrefused is (l ∷ ls) [] say f u = absurd say
+AreLinesOf-unrefused is (l ∷ ls) (s ∷ ss) (line, say) (m, f) (d, u) =
     let at : item_at l ≡ statement_line s =
     ap (λ r. result_unwrap_or r (record { label = None; statement = says.empty })) line.says in
     let none : refused source_kinds.Program is l ≡ None = refused-None is l s line.short line.says m d in
     let (rest, items) =
-    none_refused (is ++ statement_line s ∷ []) ls ss say (rw (end-snoc is (statement_line s)) f) (rw (fields-snoc is (statement_line s)) u) in
+    AreLinesOf-unrefused (is ++ statement_line s ∷ []) ls ss say (rw (end-snoc is (statement_line s)) f)
+    (rw (fields-snoc is (statement_line s)) u) in
     (rw (none, at) rest, rw at (ap (λ l. statement_line s ∷ l) items))
 
 -- what statements make, wherever they stand
@@ -122,7 +126,8 @@ placed-append p n [] ts = ap (λ (m : ℕ). placed p m (map statement_line ts)) 
 placed-append p n (s ∷ ss) ts =
     let m : n + 1 + length ss ≡ n + suc (length ss) = omega arith in
     ap (λ xs. record { place = p; line = n; item = statement_line s } ∷ xs)
-    (placed-append (place_after p s) (n + 1) ss ts ∙ ap (λ (m : ℕ). placed (place_after p s) (n + 1) (map statement_line ss)
+    (placed-append (place_after p s) (n + 1) ss ts
+    ∙ ap (λ (m : ℕ). placed (place_after p s) (n + 1) (map statement_line ss)
     ++ placed (place_behind (place_after p s) ss) m (map statement_line ts)) m)
 
 flat_map-placed_append : {X : Type 0} (f : Placed → List X) (p : Place) (n : ℕ) (ss ts : List Stmt) (a b : List X)
@@ -131,19 +136,27 @@ flat_map-placed_append : {X : Type 0} (f : Placed → List X) (p : Place) (n : �
     → flat_map f (placed p n (map statement_line (ss ++ ts))) ≡ a ++ b
 flat_map-placed_append f p n ss ts a b e g =
     ap (flat_map f) (placed-append p n ss ts)
-    ∙ (flat_map-append f (placed p n (map statement_line ss)) (placed (place_behind p ss) (n + length ss) (map statement_line ts))
-    ∙ (ap (λ l. l ++ flat_map f (placed (place_behind p ss) (n + length ss) (map statement_line ts))) e ∙ ap (λ l. a ++ l) g))
+    ∙ (flat_map-append f (placed p n (map statement_line ss))
+    (placed (place_behind p ss) (n + length ss) (map statement_line ts))
+    ∙ (ap (λ l. l ++ flat_map f (placed (place_behind p ss) (n + length ss) (map statement_line ts))) e
+    ∙ ap (λ l. a ++ l) g))
 
-pub MakesProgram-append : (ss ts : List Stmt) (insns more : List Form) (bytes rest : List ℕ) → MakesProgram ss insns bytes
+pub MakesProgram-append : (ss ts : List Stmt) (insns more : List Form) (bytes rest : List ℕ)
+    → MakesProgram ss insns bytes
     → MakesProgram ts more rest → MakesProgram (ss ++ ts) (insns ++ more) (bytes ++ rest)
 MakesProgram-append ss ts insns more bytes rest a b = record {
-  code = λ k p n. flat_map-placed_append (code_in k) p n ss ts insns more (a.code k p n) (b.code k (place_behind p ss) (n + length ss));
+  code =
+      λ k p n. flat_map-placed_append (code_in k) p n ss ts insns more (a.code k p n)
+      (b.code k (place_behind p ss) (n + length ss));
   data_bytes = λ k p n.
-      flat_map-placed_append (bytes_in k) p n ss ts bytes rest (a.data_bytes k p n) (b.data_bytes k (place_behind p ss) (n + length ss));
-  names = λ p n. flat_map-placed_append names_in p n ss ts [] [] (a.names p n) (b.names (place_behind p ss) (n + length ss));
+      flat_map-placed_append (bytes_in k) p n ss ts bytes rest (a.data_bytes k p n)
+      (b.data_bytes k (place_behind p ss) (n + length ss));
+  names = λ p n.
+      flat_map-placed_append names_in p n ss ts [] [] (a.names p n) (b.names (place_behind p ss) (n + length ss));
 }
 
-pub MakesProgram-same_bytes : (ss : List Stmt) (insns : List Form) (bytes rest : List ℕ) → MakesProgram ss insns bytes → bytes ≡ rest
+pub MakesProgram-same_bytes : (ss : List Stmt) (insns : List Form) (bytes rest : List ℕ) → MakesProgram ss insns bytes
+    → bytes ≡ rest
     → MakesProgram ss insns rest
 MakesProgram-same_bytes ss insns bytes rest m e =
     record { code = m.code; data_bytes = λ k p n. m.data_bytes k p n ∙ e; names = m.names }
@@ -158,7 +171,11 @@ replicate-cond_zero false = refl
 pub MakesProgram-insn : (i : Form) → MakesProgram (says.code i ∷ []) (i ∷ []) []
 unfolding cells
 MakesProgram-insn i =
-    record { code = λ k p n. refl; data_bytes = λ k p n. ap (λ l. l ++ []) (replicate-cond_zero p.has_zero); names = λ p n. refl }
+    record {
+      code = λ k p n. refl;
+      data_bytes = λ k p n. ap (λ l. l ++ []) (replicate-cond_zero p.has_zero);
+      names = λ p n. refl;
+    }
 
 -- a statement that makes nothing
 pub MakesProgram-silent : (s : Stmt) → coded s ≡ None → cells s ≡ [] → align_in s ≡ None
@@ -194,4 +211,6 @@ MakesProgram-row row b = record {
 
 pub MakesProgram-insns : (is : List Form) → MakesProgram (map says.code is) is []
 MakesProgram-insns [] = MakesProgram-none
-MakesProgram-insns (i ∷ is) = MakesProgram-append (says.code i ∷ []) (map says.code is) (i ∷ []) is [] [] (MakesProgram-insn i) (MakesProgram-insns is)
+MakesProgram-insns (i ∷ is) =
+    MakesProgram-append (says.code i ∷ []) (map says.code is) (i ∷ []) is [] [] (MakesProgram-insn i)
+    (MakesProgram-insns is)

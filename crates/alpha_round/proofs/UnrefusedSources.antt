@@ -20,7 +20,7 @@ use Rattle.alpha_table.specs.Decoded.{decoded}
 use Rattle.alpha_table.specs.Row.{IsInsn}
 use Rattle.alpha_table.proofs.Levels.{level_in-decoded}
 use Rattle.alpha_table.proofs.DecodedInsns.{decoded-Row}
-use Rattle.alpha_table.proofs.InsnWords.{some_word}
+use Rattle.alpha_table.proofs.InsnWords.{Row-exists}
 use Rattle.alpha_text.specs.declared.reader.LineFault.{LineFault}
 use Rattle.alpha_text.specs.Statements.{Stmt}
 use Rattle.alpha_text.specs.Statements as says
@@ -260,7 +260,7 @@ words_of : (level : Level) (code : List Form)
 words_of level [] h = record { words = []; good = All-nil (IsCodeWord level); read = refl; count = refl }
 words_of level (i ∷ code) h =
     let (insn, low) = h 0 i (omega arith) in
-    let (w, small, row) = some_word i insn in
+    let (w, small, row) = Row-exists i insn in
     let more = words_of level code (λ k d l. h (suc k) d (omega (arith, l))) in
     let found : decoded w ≡ Some i = decoded-Row w i row in
     record {
@@ -346,10 +346,10 @@ made_image is (Some entry) made consistent h =
     (FieldsFit-least (numbers_of is entry) (no_field (least_bad_field (numbers_of is entry)) fine)) in
     (image, good, code ∙ same)
 
-pub some-image : (source : List ℕ) (found : Program) → assembled source ≡ Ok found
+pub IsSourceOf-exists : (source : List ℕ) (found : Program) → assembled source ≡ Ok found
     → (image : Parts) × IsSourceOf source image
 unfolding assembled assembled_program
-some-image source found h =
+IsSourceOf-exists source found h =
     let (taken, done) = unless-ok (first_refused source_kinds.Program [] (lines source))
     (assembled_program (map item_at (lines source))) found h in
     let consistent : Consistent (known (map item_at (lines source))) (map item_at (lines source)) =

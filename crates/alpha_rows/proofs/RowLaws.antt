@@ -21,7 +21,7 @@ use Rattle.alpha_table.specs.Code.{class_at}
 use Rattle.alpha_table.specs.Decoded.{decoded}
 use Rattle.alpha_values.specs.Numbers.{signed, register_of}
 use Rattle.alpha_values.specs.Cond.{is_taken}
-use Rattle.alpha_values.proofs.MachineWords.{register_is}
+use Rattle.alpha_values.proofs.MachineWords.{register_of-mod}
 use Rattle.alpha_mem.specs.Block.{Block}
 use Rattle.alpha_image.specs.Parts.{Parts, IsImage, place_of}
 use Rattle.alpha_image.proofs.CodePlaces.{place_of-code}
@@ -163,7 +163,7 @@ BranchesTo-place : (k target n : ℕ) (disp : ℤ) → pos target ≡ pos (k + 1
 BranchesTo-place k target n disp e within small below =
     let plain : (k + 1) % 2 ^ 64 ≡ k + 1 = omega arith in
     ap (λ (m : ℕ). register_of (pos m +ℤ disp)) plain
-    ∙ (ap register_of (sym e) ∙ (register_is (pos target) 0 target (omega (arith, ints)) ∙ omega arith))
+    ∙ (ap register_of (sym e) ∙ (register_of-mod (pos target) 0 target (omega (arith, ints)) ∙ omega arith))
 
 pub ExecutesRow-branch : (c : Cond) (p : Parts) (regs : List ℕ) (mem : List Block) (k k' : ℕ) (taken : Bool) (s : Row)
     → IsImage p → IsRowAt p k s → meaning_of s.op ≡ tests c

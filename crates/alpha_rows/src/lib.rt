@@ -1,9 +1,9 @@
 //! Runs over rows that are made once of a program's words.
 //!
 //! - [`RowMachine`] is the sequential machine with the rows of its program. [`RowMachine::run_fast`] makes steps as
-//!   long as each only goes on, as [`alpha_seq::Machine::run_fast`] does, at about half its cost. The rows are made late,
-//!   once a run has made many steps for each word of the program, so that a short run of a large program doesn't pay
-//!   for them. Where there is no memory for them, the machine's own loop makes all steps.
+//!   long as each only goes on, as [`alpha_seq::Machine::run_fast`] does, at about half its cost. The rows are made
+//!   late, once a run has made many steps for each word of the program, so that a short run of a large program doesn't
+//!   pay for them. Where there is no memory for them, the machine's own loop makes all steps.
 //!
 //! A clause sees the machine alone. A row says which instruction its word is, with its operands apart
 //! (`specs/Meaning.antt`), or that the loop is left there, as it is at a barrier, at an access by the lock flag and

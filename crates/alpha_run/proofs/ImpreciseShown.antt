@@ -24,13 +24,14 @@ use Rattle.alpha_imprecise.specs.ChosenRun.{most_words}
 use Rattle.alpha_imprecise.specs.Oracle.{Oracle, CountsWords}
 use Rattle.alpha_imprecise.specs.ImpreciseState.{ImpreciseState, trap_in, waited_in, begun_at, step_result_of}
 use Rattle.alpha_imprecise.specs.Fronts.{IsFrontBy}
-use Rattle.alpha_imprecise.proofs.PendingTraps.{stepped_chosen_run, advance_chosen_run-going, none_of, made_any}
+use Rattle.alpha_imprecise.proofs.PendingTraps.{stepped_chosen_run, advance_chosen_run-going, is_none-true, made_any}
 use Rattle.alpha_imprecise.proofs.StepBounds.{steps-first, steps-then, IsWithin-pending}
 use Rattle.alpha_imprecise.proofs.ImpreciseSequence.{seen_steps-append, RunsImprecisely-append, units_of_steps-append}
 use Rattle.alpha_imprecise.proofs.WordDraws.{words_drawn, words_most, words_all}
 use Rattle.alpha_imprecise.proofs.DrawnRuns.{chosen_run_with, Draws-last, waits-last, chosen_run_with-chosen_run}
 use Rattle.alpha_imprecise.proofs.DrawnRuns.{begun-chosen_run}
-use Rattle.alpha_imprecise.proofs.DrawnRuns.{drawn_told, units_grow, stays_over, chosen_run-IsMade}
+use Rattle.alpha_imprecise.proofs.DrawnRuns.{drawn_told, steps_of_chosen_run-units_le, steps_of_chosen_run-over}
+use Rattle.alpha_imprecise.proofs.DrawnRuns.{chosen_run-IsMade}
 use Rattle.alpha_run.specs.ImpreciseRan.{moment_at, ImpreciseRan, ended_as, ImpreciseRanAs, ImprecisePrefixRun}
 use Rattle.alpha_run.proofs.StepRows.{output-append}
 use Rattle.alpha_run.proofs.SeqShown.{notes-append}
@@ -39,11 +40,11 @@ use Rattle.alpha_run.proofs.ImpreciseRuns.{step_is, step_chosen, step_drops}
 -- ---- words
 
 -- how many words were drawn, from none on
-pub drawn_from_none : (before now : Option ℕ) (count n : ℕ) → before ≡ Some 0 → now ≡ Some count
+pub CountsWords-from_zero : (before now : Option ℕ) (count n : ℕ) → before ≡ Some 0 → now ≡ Some count
     → CountsWords before now n → count % 2 ^ 64 ≡ n % 2 ^ 64
-drawn_from_none None now count n from to more = cc
-drawn_from_none (Some b) None count n from to more = cc
-drawn_from_none (Some b) (Some c) count n from to more =
+CountsWords-from_zero None now count n from to more = cc
+CountsWords-from_zero (Some b) None count n from to more = cc
+CountsWords-from_zero (Some b) (Some c) count n from to more =
     let none : b ≡ 0 = cc in
     let all : c ≡ count = cc in
     omega (arith, more)
@@ -175,9 +176,10 @@ pub record FurtherDraws (g : Program) (m : ℕ) (a : StepResult) (waited : ℕ) 
   pub draws : Draws g a waited words steps rest
   pub used : HasUsed m (units g a steps) at
 
-pub more_steps : (g : Program) (m : ℕ) (s : State) (p : Option Trap) (h : ImpreciseEvent) (waited : ℕ) (words : List ℕ)
+pub FurtherDraws-step : (g : Program) (m : ℕ) (s : State) (p : Option Trap) (h : ImpreciseEvent) (waited : ℕ)
+    (words : List ℕ)
     → FurtherDraws g m (step_result s p h) waited words
-more_steps g m s p h waited words =
+FurtherDraws-step g m s p h waited words =
     ⊎_elim
     (λ (over : finished h ≡ true). record {
       steps = [];
@@ -232,12 +234,12 @@ Draws-append g (x ∷ xs) ys a b waited words mid rest run one two = (
 abbrev pub Begins : ChosenRun → ChosenRun → Type 0
 Begins j k = (more : List ImpreciseEvent) × (k.run.steps ≡ j.run.steps ++ more)
 
-pub begins_then : (i j k : ChosenRun) → Begins i j → Begins j k → Begins i k
-begins_then i j k one two =
+pub Begins-trans : (i j k : ChosenRun) → Begins i j → Begins j k → Begins i k
+Begins-trans i j k one two =
     (one.0 ++ two.0, two.1 ∙ (ap (λ l. l ++ two.0) one.1 ∙ append_assoc i.run.steps one.0 two.0))
 
-pub advance_begins : (g : Program) (k : ChosenRun) → Begins k (advance_chosen_run g k)
-advance_begins g k = by (finished k.run.at.last_event)
+pub Begins-advance_chosen_run : (g : Program) (k : ChosenRun) → Begins k (advance_chosen_run g k)
+Begins-advance_chosen_run g k = by (finished k.run.at.last_event)
   where
     by : (b : Bool) → Begins k (cond b k (stepped_chosen_run g k))
     by true = ([], sym (append-nil k.run.steps))
@@ -246,8 +248,8 @@ advance_begins g k = by (finished k.run.at.last_event)
 steps_begin : (g : Program) (k : ChosenRun) (d : ℕ) → Begins k (steps_of_chosen_run g k d)
 steps_begin g k zero = ([], sym (append-nil k.run.steps))
 steps_begin g k (suc d) =
-    begins_then k (steps_of_chosen_run g k d) (steps_of_chosen_run g k (suc d)) (steps_begin g k d)
-    (advance_begins g (steps_of_chosen_run g k d))
+    Begins-trans k (steps_of_chosen_run g k d) (steps_of_chosen_run g k (suc d)) (steps_begin g k d)
+    (Begins-advance_chosen_run g (steps_of_chosen_run g k d))
 
 -- a run that has used so many units makes no step within them
 none_within : (g : Program) (k : ChosenRun) (n : ℕ) → HasUsed n k.run.units k.run.at → (d : ℕ)
@@ -257,7 +259,7 @@ none_within : (g : Program) (k : ChosenRun) (n : ℕ) → HasUsed n k.run.units 
 none_within g k n used d going room = by (finished k.run.at.last_event) refl d going room
   where
     calm : finished k.run.at.last_event ≡ false → k.run.at.pending ≡ None
-    calm e = none_of k.run.at.pending (ap (λ (b : Bool). b || is_none k.run.at.pending) (sym e) ∙ used.settled)
+    calm e = is_none-true k.run.at.pending (ap (λ (b : Bool). b || is_none k.run.at.pending) (sym e) ∙ used.settled)
 
     by : (b : Bool) → finished k.run.at.last_event ≡ b → (d : ℕ)
         → finished (steps_of_chosen_run g k d).run.at.last_event ≡ false
@@ -265,7 +267,8 @@ none_within g k n used d going room = by (finished k.run.at.last_event) refl d g
         → k.run.units ≡ k.run.units + 1
     by true e d going room =
         let no : true ≡ false =
-        sym e ∙ (ap (λ (j : ChosenRun). finished j.run.at.last_event) (sym (stays_over g d k e)) ∙ going) in
+        sym e
+        ∙ (ap (λ (j : ChosenRun). finished j.run.at.last_event) (sym (steps_of_chosen_run-over g d k e)) ∙ going) in
         cc
     by false e zero going room =
         let one : unit_of k.run.at.pending ≡ 1 = ap unit_of (calm e) in
@@ -276,7 +279,7 @@ none_within g k n used d going room = by (finished k.run.at.last_event) refl d g
         ap (λ (j : ChosenRun). j.run.units) (advance_chosen_run-going g k e)
         ∙ ap (λ (p : Option Trap). k.run.units + unit_of p) (calm e) in
         let full = used.full e in
-        let grows = units_grow g d (advance_chosen_run g k) in
+        let grows = steps_of_chosen_run-units_le g d (advance_chosen_run g k) in
         let more : (steps_of_chosen_run g (advance_chosen_run g k) d).run.units
         ≡ (steps_of_chosen_run g k (suc d)).run.units =
         ap (λ (j : ChosenRun). j.run.units) (steps-first g k d) in
@@ -397,7 +400,7 @@ module _ (fault : Fault) (n : ℕ) {rest : ℕ} (watch : Bool) (old : ImpreciseS
   cut_any coming =
       let g = program_of old.machine in
       let a = moment_at old in
-      let rest = more_steps g (n - units g a all) (state_of cut.intended.machine)
+      let rest = FurtherDraws-step g (n - units g a all) (state_of cut.intended.machine)
       (trap_in cut.intended.pending) cut.step.step.last_event (waited_in cut.intended.pending) coming in
       let both = units_of_steps-append g all rest.steps a steps_after_fault prefix-RunsImprecisely in
       let written = prefix-WritesPrefix rest.steps (all ++ rest.steps) refl in

@@ -19,7 +19,7 @@ use Rattle.alpha_imprecise.proofs.ChoicesMade.{OracleDraws-none}
 use Rattle.alpha_seq.specs.State.{Event as Happened}
 use Rattle.alpha_seq.specs.Run.{taken, output}
 use Rattle.alpha_seq.specs.StepEffect.{StepEffect, FaultedStepEffect}
-use Rattle.alpha_seq.proofs.InputPrefixes.{fed_all}
+use Rattle.alpha_seq.proofs.InputPrefixes.{Fed-taken_append}
 use Rattle.alpha_run.specs.RunEffect.{watching, drawn_to, StateAfterFault, IsObservedStep, FaultedStep}
 
 -- the step was made, and all of its lines are written
@@ -65,20 +65,21 @@ StepEffect-IsObservedStep steps_to uses core next lines stops event stop last ol
 would_of : (input : Drawn) (events : List Happened) → Feeds input events → WouldFeed input events
 would_of input events fed = λ bytes is. let f = fed.told bytes is in (f.0, f.1)
 
-pub end_of_fed : (input : Drawn) (events : List Happened) → Feeds input events → LeavesEnd input
-end_of_fed input events fed =
+pub Feeds-LeavesEnd : (input : Drawn) (events : List Happened) → Feeds input events → LeavesEnd input
+Feeds-LeavesEnd input events fed =
     λ bytes is. let f = fed.told bytes is in
-    (taken events, f.0, sym (fed_all events bytes f.0 f.1), f.2)
+    (taken events, f.0, sym (Fed-taken_append events bytes f.0 f.1), f.2)
 
 -- steps left this of it, and one that was cut short an end of that
-pub end_of_cut : (input : Drawn) (left : Supply) (events : List Happened) → Feeds (drawn_to input left) events
+pub Feeds-LeavesEnd_cut_short : (input : Drawn) (left : Supply) (events : List Happened)
+    → Feeds (drawn_to input left) events
     → LeavesEnd (drawn_from input left input.before) → LeavesEnd input
-end_of_cut input left events fed more = λ bytes is.
+Feeds-LeavesEnd_cut_short input left events fed more = λ bytes is.
     let one = fed.told bytes is in
     let two = more one.0 one.2 in (
       taken events ++ two.0,
       two.1,
-      sym (fed_all events bytes one.0 one.1)
+      sym (Fed-taken_append events bytes one.0 one.1)
           ∙ (ap (λ l. taken events ++ l) two.2 ∙ sym (append_assoc (taken events) two.0 two.1)),
       two.3,
     )
@@ -103,7 +104,7 @@ notes-Idles steps_to uses core leaves next lines stops event old new m from befo
       units = one.units;
       drew = one.drew;
       would_feed = would_of input p.seen one.fed;
-      leaves_end = end_of_fed input p.seen one.fed;
+      leaves_end = Feeds-LeavesEnd input p.seen one.fed;
       bytes = WritesPrefix-all out.old out.new (output p.seen) one.wrote.written;
       lines =
           subst (WritesPrefix notes.old notes.new)

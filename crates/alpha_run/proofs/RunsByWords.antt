@@ -13,7 +13,7 @@ use Rattle.alpha_imprecise.specs.ChosenRun.{shown_chosen_run, first_words, most_
 use Rattle.alpha_imprecise.specs.Oracle.{Oracle}
 use Rattle.alpha_imprecise.specs.ImpreciseState.{ImpreciseState, IsFresh, begun_at, step_result_of}
 use Rattle.alpha_imprecise.proofs.DrawnRuns.{chosen_run_with}
-use Rattle.alpha_imprecise.proofs.FreshRuns.{begun_fresh, told_starts}
+use Rattle.alpha_imprecise.proofs.FreshRuns.{begun_fresh, OracleDraws-Starts}
 use Rattle.alpha_run.specs.ImpreciseRan.{ended_as, ImpreciseRanAs, ImprecisePrefixRun}
 use Rattle.alpha_run.specs.Shows.{ended_or_lost, ShowsImprecise, ShowsImprecisePart, DrawsFew}
 use Rattle.alpha_run.proofs.ImpreciseShown.{whole_run-ImpreciseRanAs, few_drawn, told_from, few_cut, cut_from}
@@ -48,7 +48,7 @@ by_words last n left watch old new before after input out sink bytes ahead did t
     let w = whole_run-ImpreciseRanAs last n left watch old new before after input out sink did in
     let words = w.ran.words in
     let few = few_drawn last n left watch old new before after input out sink w fresh.nothing_pending in
-    let s = told_starts before after ahead words (most_words n) told w.ran.drew few in
+    let s = OracleDraws-Starts before after ahead words (most_words n) told w.ran.drew few in
     let fed = w.ran.fed.told bytes tells in
     let there = told_from last n left watch old new before after input out sink w bytes s.coming fed.0 fed.1 in
     let k =
@@ -70,18 +70,19 @@ pub by_words_part : (fault : Fault) (n : ℕ) {rest : ℕ} (watch : Bool) (old n
     → ShowsImprecisePart (imprecise_by (program_of old.machine) bytes ahead n watch) out sink
 by_words_part fault n watch old new before after input out sink bytes ahead cut tells told fresh =
     let words = cut.words ++ cut.label.words in
-    let s = told_starts before after ahead words (most_words n) told cut.drew
+    let s = OracleDraws-Starts before after ahead words (most_words n) told cut.drew
     (few_cut fault n watch old before after input out sink cut fresh.nothing_pending) in
     let part = cut_from fault n watch old before after input out sink cut bytes s.coming tells in
     subst (λ (j : ChosenRun). ShowsImprecisePart (shown_chosen_run watch j) out sink)
     (sym (by_told old n bytes words s.coming ahead fresh s.is))
     (record { bytes = part.0; lines = part.1 })
 
-pub draws_few : (last : Option SeenEvent) (n left : ℕ) (watch : Bool) (old new : ImpreciseState) (before after : Oracle)
+pub ImpreciseRanAs-DrawsFew : (last : Option SeenEvent) (n left : ℕ) (watch : Bool) (old new : ImpreciseState)
+    (before after : Oracle)
     (input : Drawn) (out sink : SinkChange)
     → ImpreciseRanAs last n left watch old new before after input out sink → old.pending ≡ None
     → DrawsFew n before after
-draws_few last n left watch old new before after input out sink did calm =
+ImpreciseRanAs-DrawsFew last n left watch old new before after input out sink did calm =
     let w = whole_run-ImpreciseRanAs last n left watch old new before after input out sink did in
     record {
       words = w.ran.words;

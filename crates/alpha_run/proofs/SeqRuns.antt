@@ -50,9 +50,9 @@ seq_finished-is_over : (old : Machine) (p : StepLabel) (new : Machine) (is : Seq
 seq_finished-is_over old p new is = sym (over_as is.last_event is.passed) ∙ ap is_last (sym is.event)
 
 -- it is the step of the definition that was given what its event was given
-pub step_is : (g : Program) (p : StepLabel) (old new : Machine) → program_of old ≡ g → (is : SeqStep old p new)
+pub step_from-given : (g : Program) (p : StepLabel) (old new : Machine) → program_of old ≡ g → (is : SeqStep old p new)
     → step_from g (state_of old) (given is.last_event) ≡ stepped (state_of new) is.last_event
-step_is g p old new program is =
+step_from-given g p old new program is =
     ap (λ (q : Program). step_from q (state_of old) (given is.last_event)) (sym program) ∙ is.is
 
 abbrev pub all_lines : Bool → List StepLabel → List ℕ
@@ -93,7 +93,7 @@ one_more : (g : Program) (watch : Bool) (from last : Event)
     → SeqRanOverRow g watch from last (events_of (p ∷ ps)) (all_lines watch (p ∷ ps)) old new
 one_more g watch from last p ps old mid new program going is r =
     let h = is.last_event in
-    let step = step_is g p old mid program is in
+    let step = step_from-given g p old mid program is in
     subst (λ (l : List Event). SeqRanOverRow g watch from last (l ++ events_of ps) (all_lines watch (p ∷ ps)) old new)
     (sym is.seen) (record {
       runs = (
@@ -229,24 +229,24 @@ SeqRan-ended units left event watch old new from to before behind input out sink
     }
 
 -- the run, by its last step
-pub ran_as : (last : Option SeenEvent) (units left : ℕ) (watch : Bool) (old new : Machine) (from to : Notes)
+pub SeqRan-last_step : (last : Option SeenEvent) (units left : ℕ) (watch : Bool) (old new : Machine) (from to : Notes)
     (before behind : Oracle) (input : Drawn) (out sink : SinkChange)
     → from ≡ record { watch = watch }
     → RunsTo last SeqStep one_unit
     (watching stays lines_seen never) units left old new from to before behind input out sink
     → SeqRan last units left watch old new input out sink
-ran_as None units left watch old new from to before behind input out sink is did =
+SeqRan-last_step None units left watch old new from to before behind input out sink is did =
     SeqRan-spent units left watch old new from to before behind input out sink is did.0 did.1
-ran_as (Some event) units left watch old new from to before behind input out sink is did =
+SeqRan-last_step (Some event) units left watch old new from to before behind input out sink is did =
     SeqRan-ended units left event watch old new from to before behind input out sink is did
 
-pub cut_ran : (fault : Fault) (units left : ℕ) (watch : Bool) (old new : Machine) (from : Notes)
+pub SeqPrefixRun-last_step : (fault : Fault) (units left : ℕ) (watch : Bool) (old new : Machine) (from : Notes)
     (before behind : Oracle) (input : Drawn) (out sink : SinkChange)
     → from ≡ record { watch = watch }
     → IsPrefixRun fault SeqStep SeqStateAfterFault
     (watching stays lines_seen never) units left old new from before behind input out sink
     → SeqPrefixRun fault units left watch old new input out sink
-cut_ran fault units left watch old new from before behind input out sink is one =
+SeqPrefixRun-last_step fault units left watch old new from before behind input out sink is one =
     let ps = one.labels in
     let p = one.label in
     let r = row_ran (program_of old) watch ps Went old one.mid refl refl one.row one.going in

@@ -16,10 +16,10 @@ use Rattle.alpha_seq.specs.Devices.{Drawn}
 use Rattle.alpha_seq.specs.Fronts.{IsFront}
 use Rattle.alpha_seq.proofs.RunsOverInput.{after-over}
 use Rattle.alpha_seq.proofs.RunSteps.{WritesBetween-prefix}
-use Rattle.alpha_seq.proofs.RunSequence.{Runs-append, Fed-append, fed-after, cut-front, Runs-Filled}
+use Rattle.alpha_seq.proofs.RunSequence.{Runs-append, Fed-append, fed-after, after-events_prefix, Runs-Filled}
 use Rattle.alpha_run.specs.SeqRun.{ended_by, SeqRan, SeqPrefixRun}
 use Rattle.alpha_run.proofs.StepRows.{output-append}
-use Rattle.alpha_run.proofs.SeqRuns.{end_of-going, step_is}
+use Rattle.alpha_run.proofs.SeqRuns.{end_of-going, step_from-given}
 
 pub notes-append : (watch : Bool) (xs ys : List Event) → notes watch (xs ++ ys) ≡ notes watch xs ++ notes watch ys
 notes-append watch xs ys = flat_map-append (lines_of watch) xs ys
@@ -59,7 +59,7 @@ module _ (fault : Fault) (units : ℕ) {rest : ℕ} (watch : Bool) (old : Machin
       let h = cut.step.last_event in
       let is : next g cut.at h ≡ seq_steps_after_fault =
       ap (λ x. step_from g x (given h)) (sym cut.stands)
-      ∙ step_is g cut.label cut.mid cut.intended cut.program cut.step in
+      ∙ step_from-given g cut.label cut.mid cut.intended cut.program cut.step in
       subst (λ (l : List Event). Runs g (begins (state_of old)) (cut.events ++ l) seq_steps_after_fault)
       (sym cut.step.seen)
       (Runs-append g cut.events (h ∷ []) (begins (state_of old)) cut.at seq_steps_after_fault cut.runs
@@ -98,7 +98,8 @@ module _ (fault : Fault) (units : ℕ) {rest : ℕ} (watch : Bool) (old : Machin
       let last = cut.would_feed first.0 first.2 in
       let fed = Fed-append bytes first.0 last.0 cut.events cut.label.seen first.1 last.1 in
       let rest =
-      cut-front (program_of old) (state_of old) all seq_steps_after_fault bytes last.0 (units - length all) runs fed in
+      after-events_prefix (program_of old) (state_of old) all seq_steps_after_fault bytes last.0
+      (units - length all) runs fed in
       let same : length all + (units - length all) ≡ units = omega (arith, count, cut.less) in
       let is : (after (program_of old) (state_of old) bytes units).events ≡ all ++ rest.0 =
       ap (λ n. (after (program_of old) (state_of old) bytes n).events) (sym same) ∙ rest.1 in (

@@ -32,7 +32,7 @@ use Rattle.alpha_values.specs.Op.{result_of}
 use Rattle.alpha_values.specs.Outcome.{outcome_of}
 use Rattle.alpha_values.specs.Cond.{is_taken}
 use Rattle.alpha_values.specs.Address.{access_address}
-use Rattle.alpha_values.proofs.MachineWords.{register_is}
+use Rattle.alpha_values.proofs.MachineWords.{register_of-mod}
 use Rattle.alpha_values.proofs.LawLemmas.{completed-wrap, completed-exact}
 use Rattle.alpha_mem.specs.Intent.{Load, Store}
 use Rattle.alpha_mem.specs.Block.{Block, shapes}
@@ -49,7 +49,7 @@ use Rattle.alpha_seq.specs.Machine.{state_of}
 use Rattle.alpha_seq.specs.Machine as of_machine
 use Rattle.alpha_seq.specs.Executed.{ExecutesWord, Retires, filled}
 use Rattle.alpha_seq.specs.FastSteps.{FastSteps, machine_at, ExecutesFast, RunsFast}
-use Rattle.alpha_seq.proofs.LoadedValues.{loaded_is}
+use Rattle.alpha_seq.proofs.LoadedValues.{loaded_filled}
 
 -- ---- addresses of places
 
@@ -64,9 +64,9 @@ address-forth base place n =
     let pc = (base + 4 * place) % 2 ^ 64 in
     let next = (place + 1) % 2 ^ 64 in
     let to : register_of (pos (pc + 4) +ℤ pos 4 *ℤ pos n) ≡ (pc + 4 + 4 * n) % 2 ^ 64 =
-    register_is _ 0 (pc + 4 + 4 * n) (omega (arith, ints)) in
+    register_of-mod _ 0 (pc + 4 + 4 * n) (omega (arith, ints)) in
     let far : register_of (pos next +ℤ pos n) ≡ (next + n) % 2 ^ 64 =
-    register_is _ 0 (next + n) (omega (arith, ints)) in
+    register_of-mod _ 0 (next + n) (omega (arith, ints)) in
     omega (arith, to, far)
 
 address-back : (base place n : ℕ) → n < 2 ^ 31
@@ -76,9 +76,9 @@ address-back base place n small =
     let pc = (base + 4 * place) % 2 ^ 64 in
     let next = (place + 1) % 2 ^ 64 in
     let to : register_of (pos (pc + 4) +ℤ pos 4 *ℤ negsuc n) ≡ (pc + 2 ^ 64 - 4 * n) % 2 ^ 64 =
-    register_is _ 1 (pc + 2 ^ 64 - 4 * n) (omega (arith, ints)) in
+    register_of-mod _ 1 (pc + 2 ^ 64 - 4 * n) (omega (arith, ints)) in
     let far : register_of (pos next +ℤ negsuc n) ≡ (next + 2 ^ 64 - (n + 1)) % 2 ^ 64 =
-    register_is _ 1 (next + 2 ^ 64 - (n + 1)) (omega (arith, ints)) in
+    register_of-mod _ 1 (next + 2 ^ 64 - (n + 1)) (omega (arith, ints)) in
     omega (arith, to, far)
 
 pub displaced_place : (base place : ℕ) (d : ℤ) → FitsSigned w32 d
@@ -218,7 +218,8 @@ ExecutesFast-load extension at ra regs mem place addr n image there calm is = by
             let fault : fault_of (shapes mem) Load (access_address at (reg regs at.base)) at.bytes ≡ None =
             ap (λ (x : ℕ). fault_of (shapes mem) Load x at.bytes) (sym there) ∙ calm in
             let value : loaded extension at s ≡ filled extension n =
-            loaded_is extension at s ∙ (ap (λ (x : ℕ). filled extension (little (bytes_at mem x at.bytes))) (sym there)
+            loaded_filled extension at s
+            ∙ (ap (λ (x : ℕ). filled extension (little (bytes_at mem x at.bytes))) (sym there)
             ∙ ap (filled extension) (sym is)) in
             ap (λ (f : Option MemFault).
             unless f (access_address at (reg regs at.base)) s (setting s ra (loaded extension at s)))

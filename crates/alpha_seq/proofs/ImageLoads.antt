@@ -19,7 +19,7 @@ use Rattle.alpha_image.specs.Layout.{longword, filled_size}
 use Rattle.alpha_image.specs.Rules.{Holds, AreApart, code_segment, stack_segment, size_of_segment}
 use Rattle.alpha_image.specs.Parts.{Parts, Piece, IsImage, numbers, pieces, pieces_of}
 use Rattle.alpha_image.proofs.CodeWords.{length-flat_map_longword}
-use Rattle.alpha_image.proofs.SegmentShares.{length-pieces_of, piece_within}
+use Rattle.alpha_image.proofs.SegmentShares.{length-pieces_of, filled_size-take_bound}
 use Rattle.alpha_seq.specs.State.{State}
 use Rattle.alpha_seq.specs.Start.{stack_end, start_memory, start_regs, start}
 use Rattle.alpha_seq.specs.StartMemory.{code_block, segment_block, stack_block, memory_before}
@@ -136,9 +136,9 @@ code_aligned p image = aligned_more p.code_base image.fields.code_base.0
 pub code_below : (p : Parts) → IsImage p → p.code_base + length (flat_map longword p.words) ≤ 2 ^ 30
 code_below p image = omega (arith, image.fields.words.2, length-flat_map_longword p.words)
 
-pub code_first : (p : Parts) → [] ++ code_block p ∷ [] ≡ memory_before p 0
+pub memory_before-zero : (p : Parts) → [] ++ code_block p ∷ [] ≡ memory_before p 0
 unfolding memory_before
-code_first p = refl
+memory_before-zero p = refl
 
 filled_more : (s : Segment) (rest : List Segment) (n : ℕ)
     → filled_size (take (suc n) (s ∷ rest)) ≡ s.filled + filled_size (take n rest)
@@ -187,7 +187,7 @@ segment-addable p n s bytes image at found within =
     let is_share = piece_at p.segments p.bytes n s at in
     let same : take s.filled (drop (filled_size (take n p.segments)) p.bytes) ≡ bytes =
     some_same _ _ (sym (ap (option_map (λ piece. piece.bytes)) is_share) ∙ found) in
-    let inside = piece_within p.segments n s at in
+    let inside = filled_size-take_bound p.segments n s at in
     let size : length bytes ≡ s.filled = ap length (sym same) ∙ omega (
       arith,
       length-take s.filled (drop (filled_size (take n p.segments)) p.bytes),
@@ -226,9 +226,9 @@ stack_free p image =
     (λ x low high in_code. code_from_stack p image x in_code (low, high))
     (λ k d x before within low high in_k. stack_from_segment p k d image within x (low, high) in_k)
 
-pub stack_last : (p : Parts) → memory_before p (length p.segments) ++ stack_block p ∷ [] ≡ start_memory p
+pub start_memory-stack_last : (p : Parts) → memory_before p (length p.segments) ++ stack_block p ∷ [] ≡ start_memory p
 unfolding memory_before start_memory
-stack_last p =
+start_memory-stack_last p =
     ap (λ (l : List Piece). code_block p ∷ (map segment_block l ++ stack_block p ∷ []))
     (take_all (length p.segments) (pieces p) (omega (arith, length-pieces_of p.segments p.bytes)))
 

@@ -9,7 +9,7 @@ use Rattle.alpha_seq.specs.State.{State}
 use Rattle.alpha_seq.specs.Step.{accessed, loaded}
 use Rattle.alpha_seq.specs.Executed.{filled}
 
-pub loaded_is : (extension : Extension) (at : MemAccess) (s : State)
+pub loaded_filled : (extension : Extension) (at : MemAccess) (s : State)
     → loaded extension at s ≡ filled extension (little (bytes_at s.mem (accessed at s) at.bytes))
-loaded_is Zero at s = refl
-loaded_is Sign at s = refl
+loaded_filled Zero at s = refl
+loaded_filled Sign at s = refl

@@ -26,7 +26,7 @@ use Rattle.alpha_seq.specs.Step.{next_pc, ended, lock_after, returned, step}
 use Rattle.alpha_seq.specs.Machine.{program_of, state_of, class_here}
 use Rattle.alpha_seq.specs.Devices.{Drawn}
 use Rattle.alpha_seq.specs.Sequential.{FaultedSeqStep}
-use Rattle.alpha_seq.proofs.StepsMade.{MakesStep, kernel_here, input_breaks, output_breaks}
+use Rattle.alpha_seq.proofs.StepsMade.{MakesStep, kernel_here, FaultedSeqStep-input_fails, FaultedSeqStep-output_fails}
 
 -- the machine after a call, before the program counter moves
 abbrev pub called_machine : Machine → KernelState → List ℕ → List Block → ℕ → Machine
@@ -111,23 +111,23 @@ module _ (function : PalCall) (m : Machine) (k : KernelState) (regs : List ℕ) 
   }
 
   -- a call in which a device failed
-  pub call-breaks : (fault : Fault)
+  pub call-fails : (fault : Fault)
       → CallEffect function (Err fault) (seen m.regs m.memory m.unique left written)
       (seen regs mem unique left' written')
       → kernel_here m (called_machine m k regs mem unique)
       → InputCause {A = PalEnd} (Err fault) faults faults' → SinkCause {A = PalEnd} (Err fault) count count'
       → FaultedSeqStep fault m (called_machine m k regs mem unique) (drawn_by left left' faults faults')
       (sunk_by written written' count count')
-  call-breaks broken.Input h kernel source sink =
-      input_breaks m (called_machine m k regs mem unique) (drawn_by left left' faults faults')
+  call-fails broken.Input h kernel source sink =
+      FaultedSeqStep-input_fails m (called_machine m k regs mem unique) (drawn_by left left' faults faults')
       (sunk_by written written' count count')
       (here ∙ ap (λ (f : PalCall). Some (barrier (Some f))) h.0) h.1
       (ap (λ (s : CallView). called_machine m k s.regs s.mem s.unique) h.2) kernel source.0 source.1
       (record { written = ap (λ (s : CallView). s.written) h.2; same = sink })
-  call-breaks broken.Output h kernel source sink =
-      output_breaks m (called_machine m k regs mem unique) (drawn_by left left' faults faults')
+  call-fails broken.Output h kernel source sink =
+      FaultedSeqStep-output_fails m (called_machine m k regs mem unique) (drawn_by left left' faults faults')
       (sunk_by written written' count count')
       (here ∙ ap (λ (f : PalCall). Some (barrier (Some f))) h.0) h.1
       (ap (λ (s : CallView). called_machine m k s.regs s.mem s.unique) h.2) kernel sink.0 sink.1
       (record { left = ap (λ (s : CallView). s.supply) h.2; same = source })
-  call-breaks broken.Notes h kernel source sink = absurd h
+  call-fails broken.Notes h kernel source sink = absurd h

@@ -25,9 +25,9 @@ Runs-split g (x ∷ xs) ys a c run =
     (rest.0, (run.0, run.1, rest.1), rest.2)
 
 -- events determine a run
-pub Runs-one : (g : Program) (xs : List Event) (a b c : Stepped) → Runs g a xs b → Runs g a xs c → b ≡ c
-Runs-one g [] a b c one two = sym one ∙ two
-Runs-one g (x ∷ xs) a b c one two = Runs-one g xs (next g a x) b c one.2 two.2
+pub Runs-deterministic : (g : Program) (xs : List Event) (a b c : Stepped) → Runs g a xs b → Runs g a xs c → b ≡ c
+Runs-deterministic g [] a b c one two = sym one ∙ two
+Runs-deterministic g (x ∷ xs) a b c one two = Runs-deterministic g xs (next g a x) b c one.2 two.2
 
 -- one step more over an input
 pub Runs-one_more : (g : Program) (a : Stepped) (input : List ℕ) → is_over a.event ≡ false
@@ -156,10 +156,10 @@ advance_by-more g (suc n) r =
     (one.0 ++ two.0, two.1 ∙ (ap (λ l. l ++ two.0) one.1 ∙ append_assoc r.events one.0 two.0))
 
 -- its events are a front of those of the whole run
-pub cut-front : (g : Program) (s : State) (events : List Event) (b : Stepped) (input left : List ℕ) (k : ℕ)
+pub after-events_prefix : (g : Program) (s : State) (events : List Event) (b : Stepped) (input left : List ℕ) (k : ℕ)
     → Runs g (begins s) events b → Fed input events left
     → (rest : List Event) × ((after g s input (length events + k)).events ≡ events ++ rest)
-cut-front g s events b input left k run fed =
+after-events_prefix g s events b input left k run fed =
     let here = advance_by-after g s input (length events) ∙ fed-after g s events b input left run fed in
     let more = advance_by-more g k (advance_by g (length events) (started s input)) in (
       more.0,

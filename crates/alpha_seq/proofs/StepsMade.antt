@@ -18,7 +18,7 @@ use Rattle.alpha_pal.specs.Kernel.{KernelState}
 use Rattle.alpha_pal.specs.Call.{Traffic, Read, Wrote, call}
 use Rattle.alpha_pal.specs.Serve.{system_call_of}
 use Rattle.alpha_pal.specs.CallEffect.{Takes, ReadsTold, Reads, TakesPart, PutsPart}
-use Rattle.alpha_pal.proofs.InputTaken.{there_behind}
+use Rattle.alpha_pal.proofs.InputTaken.{StandsAt-write_bytes}
 use Rattle.alpha_pal.proofs.InputRequests.{take-again}
 use Rattle.alpha_seq.specs.declared.event.Event.{Event as SeenEvent}
 use Rattle.alpha_seq.specs.declared.machine.Machine.{Machine}
@@ -128,20 +128,21 @@ unfolding call
 writes_all m input class number descriptor range = rw (class, number, descriptor, range) refl
 
 -- a read whose source failed: the step to the machine after a read that takes all it asks for, of which some was taken
-pub input_breaks : (old new : Machine) (input : Drawn) (out : SinkChange)
+pub FaultedSeqStep-input_fails : (old new : Machine) (input : Drawn) (out : SinkChange)
     → class_here old ≡ Some (barrier (Some Callsys))
     → TakesPart (system_call_of old.regs) old.memory new.memory input.old input.new
     → new ≡ record old { memory = new.memory; kernel = new.kernel }
     → kernel_here old new → input.before ≤ input.now → Faulted input.before input.now → Idles out
     → FaultedSeqStep faults.Input old new input out
-input_breaks old new input out class part stays kernel later cause idle =
+FaultedSeqStep-input_fails old new input out class part stays kernel later cause idle =
     let at = reg old.regs 17 in
     let n = reg old.regs 18 in
     let bytes = take n (part.taken ++ part.rest) in
     let passed = Took at (length bytes) in
     let would = read_machine old bytes in
     let event = barrier_event would (Read n bytes) in
-    let there = there_behind old.memory at n bytes part.layout part.range (take_at-most n (part.taken ++ part.rest)) in
+    let there =
+    StandsAt-write_bytes old.memory at n bytes part.layout part.range (take_at-most n (part.taken ++ part.rest)) in
     record {
       intended = would;
       label = record { units = 1; words = []; seen = event ∷ []; event = seen_as event passed; core = would };
@@ -181,12 +182,12 @@ input_breaks old new input out class part stays kernel later cause idle =
     }
 
 -- a write whose sink failed: the step to the machine after a write, of whose bytes a front was put
-pub output_breaks : (old new : Machine) (input : Drawn) (out : SinkChange)
+pub FaultedSeqStep-output_fails : (old new : Machine) (input : Drawn) (out : SinkChange)
     → class_here old ≡ Some (barrier (Some Callsys))
     → PutsPart (system_call_of old.regs) old.memory out.old out.new → new ≡ record old { kernel = new.kernel }
     → kernel_here old new → out.before ≤ out.now → HasFailed out → Rests input
     → FaultedSeqStep faults.Output old new input out
-output_breaks old new input out class part unmade kernel later cause rests =
+FaultedSeqStep-output_fails old new input out class part unmade kernel later cause rests =
     let bytes = bytes_at old.memory (reg old.regs 17) (reg old.regs 18) in
     let passed = Put (reg old.regs 17) (reg old.regs 18) in
     let would = served_machine old (reg old.regs 18) in

@@ -160,7 +160,7 @@ impl Machine {
     }
 
     // What a load from an address puts into its register.
-    #[tactic(auto, using(crate::proofs::LoadedValues::loaded_is))]
+    #[tactic(auto, using(crate::proofs::LoadedValues::loaded_filled))]
     #[inline(always)]
     fn read(&self, extension: Extension, at: &MemAccess, addr: u64) -> Result<u64, MemFault>
         requires size { IsSized at.now.bytes }

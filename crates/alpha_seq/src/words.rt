@@ -46,7 +46,13 @@ impl Machine {
 
     // Executes an instruction that may trap, if it doesn't overflow.
     #[inline(always)]
-    pub(crate) fn execute_unless_overflow(&mut self, op: TrapOp, ra: Reg, src: &Src, rc: Reg) -> bool
+    pub(crate) fn execute_unless_overflow(
+        &mut self,
+        op: TrapOp,
+        ra: Reg,
+        src: &Src,
+        rc: Reg,
+    ) -> bool
         ensures went { IsTrue result → ExecutesWord Went (trigger op ra src.now rc) self.old self.new }
         ensures stays { result ≡ false → self.new ≡ self.old }
         ensures overflows { result ≡ false

@@ -22,57 +22,58 @@ use Rattle.alpha_shadow.specs.Window.{stands_within, open_triggers}
 use Rattle.alpha_shadow.specs.Reach.{MayTouch, reach_of}
 use Rattle.alpha_shadow.specs.Place.{IsFirstBroken}
 use Rattle.alpha_shadow.proofs.WordColumns.{trigger_destination}
-use Rattle.alpha_shadow.proofs.Shadows.{find_open, first_that, first_open}
+use Rattle.alpha_shadow.proofs.Shadows.{FindsTrigger-open_triggers, FindsTrigger-IsFirstThat, IsFirstThat-open_triggers}
 
 -- a broken place behind its trigger is one of an open trigger
-pub broken_open : (code : List ℕ) (p at : ℕ) (c : Condition) → IsBroken code p at c → p ≢ at → IsOpen code p at
-broken_open code p at c b not =
+pub IsBroken-IsOpen : (code : List ℕ) (p at : ℕ) (c : Condition) → IsBroken code p at c → p ≢ at → IsOpen code p at
+IsBroken-IsOpen code p at c b not =
     record { kind = b.trigger_kind; before = let o = b.order in omega arith; straight = b.straight }
 
-pub open_broken : (code : List ℕ) (p at : ℕ) (c : Condition) → IsOpen code p at → Holds code p at c
+pub IsOpen-IsBroken : (code : List ℕ) (p at : ℕ) (c : Condition) → IsOpen code p at → Holds code p at c
     → IsBroken code p at c
-open_broken code p at c o h =
+IsOpen-IsBroken code p at c o h =
     record { trigger_kind = o.kind; order = let b = o.before in omega arith; straight = o.straight; holds = h }
 
 -- where the condition is a fact of the open triggers, the first with that fact is the first broken one
-pub by_first : (code : List ℕ) (at : ℕ) (c : Condition) (P : ℕ → Type 0)
+pub IsFirstBroken-IsFirstThat : (code : List ℕ) (at : ℕ) (c : Condition) (P : ℕ → Type 0)
     → ((p : ℕ) → IsOpen code p at → P p → Holds code p at c)
     → ((p : ℕ) → IsBroken code p at c → IsOpen code p at × P p) → (o : Option ℕ) → IsFirstThat code at P o
     → IsFirstBroken code at c o
-by_first code at c P to from None f = λ p b. let w = from p b in f p w.0 w.1
-by_first code at c P to from (Some first) f =
-    (open_broken code first at c f.0 (to first f.0 f.1), λ p b. let w = from p b in f.2 p w.0 w.1)
+IsFirstBroken-IsFirstThat code at c P to from None f = λ p b. let w = from p b in f p w.0 w.1
+IsFirstBroken-IsFirstThat code at c P to from (Some first) f =
+    (IsOpen-IsBroken code first at c f.0 (to first f.0 f.1), λ p b. let w = from p b in f.2 p w.0 w.1)
 
 -- the first trigger stands for all, where the fact holds of each trigger before one for which it holds
-pub first_has : (code : List ℕ) (at : ℕ) (P : ℕ → Type 0) (first : ℕ) → IsFirstThat code at (λ p. Unit {0}) (Some first)
+pub IsFirstThat-first_has : (code : List ℕ) (at : ℕ) (P : ℕ → Type 0) (first : ℕ)
+    → IsFirstThat code at (λ p. Unit {0}) (Some first)
     → P first → IsFirstThat code at P (Some first)
-first_has code at P first f holds = (f.0, holds, λ p h q. f.2 p h tt)
+IsFirstThat-first_has code at P first f holds = (f.0, holds, λ p h q. f.2 p h tt)
 
-pub first_lacks : (code : List ℕ) (at : ℕ) (P : ℕ → Type 0) (first : ℕ)
+pub IsFirstThat-first_lacks : (code : List ℕ) (at : ℕ) (P : ℕ → Type 0) (first : ℕ)
     → IsFirstThat code at (λ p. Unit {0}) (Some first)
     → ((p : ℕ) → first ≤ p → P p → P first) → (P first → ⊥) → IsFirstThat code at P None
-first_lacks code at P first f falls not = λ p h q. not (falls p (f.2 p h tt) q)
+IsFirstThat-first_lacks code at P first f falls not = λ p h q. not (falls p (f.2 p h tt) q)
 
 -- what the window's look-ups say
 
-pub window_first : (code : List ℕ) (w : Window) (at : ℕ) → Summarizes code w at → (o : Option ℕ)
+pub IsFirstThat-window_first : (code : List ℕ) (w : Window) (at : ℕ) → Summarizes code w at → (o : Option ℕ)
     → o ≡ option_map place_of (slice_get w.triggers.items 0)
     → IsFirstThat code at (λ p. Unit {0}) o
-window_first code w at s o e = rw (e, s.triggers) (first_open code at)
+IsFirstThat-window_first code w at s o e = rw (e, s.triggers) (IsFirstThat-open_triggers code at)
 
-pub window_within : (code : List ℕ) (w : Window) (at from to : ℕ) → Summarizes code w at → (o : Option ℕ)
+pub IsFirstThat-window_within : (code : List ℕ) (w : Window) (at from to : ℕ) → Summarizes code w at → (o : Option ℕ)
     → o ≡ option_map place_of (find (stands_within from to) w.triggers.items)
     → IsFirstThat code at (λ p. (from ≤ p) × (p < to)) o
-window_within code w at from to s o e =
-    rw (e, s.triggers) (first_that code at (stands_within from to) (λ p. (from ≤ p) × (p < to))
+IsFirstThat-window_within code w at from to s o e =
+    rw (e, s.triggers) (FindsTrigger-IsFirstThat code at (stands_within from to) (λ p. (from ≤ p) × (p < to))
     (λ p t. let q = and_parts (nat_le from p) (nat_lt p to) t in (leb-true from p q.0, leb-true (suc p) to q.1))
     (λ p q. and_from (nat_le from p) (nat_lt p to) (le-leb from p q.0) (le-leb (suc p) to q.1))
-    (find (stands_within from to) (open_triggers code at)) (find_open code (stands_within from to) at))
+    (find (stands_within from to) (open_triggers code at)) (FindsTrigger-open_triggers code (stands_within from to) at))
 
 -- no place is in an empty range
-pub none_within : (from to : ℕ) → to ≤ from → (ts : List Trigger) → find (stands_within from to) ts ≡ None
-none_within from to empty [] = refl
-none_within from to empty (t ∷ ts) = cases (none_within from to empty ts) (stands_within from to t) refl
+pub find-empty_range : (from to : ℕ) → to ≤ from → (ts : List Trigger) → find (stands_within from to) ts ≡ None
+find-empty_range from to empty [] = refl
+find-empty_range from to empty (t ∷ ts) = cases (find-empty_range from to empty ts) (stands_within from to t) refl
   where
     cases : find (stands_within from to) ts ≡ None → (b : Bool) → stands_within from to t ≡ b
         → cond b (Some t) (find (stands_within from to) ts) ≡ None
@@ -83,20 +84,22 @@ none_within from to empty (t ∷ ts) = cases (none_within from to empty ts) (sta
         absurd (omega arith)
     cases rest false e = rest
 
-pub window_destination : (code : List ℕ) (w : Window) (at d : ℕ) → Summarizes code w at → (o : Option ℕ)
+pub IsFirstThat-window_destination : (code : List ℕ) (w : Window) (at d : ℕ) → Summarizes code w at → (o : Option ℕ)
     → o ≡ option_map place_of (find (λ t. t.destination == d) w.triggers.items)
     → IsFirstThat code at (λ p. destination_of code p ≡ d) o
-window_destination code w at d s o e =
-    rw (e, s.triggers) (first_that code at (λ t. t.destination == d) (λ p. destination_of code p ≡ d)
+IsFirstThat-window_destination code w at d s o e =
+    rw (e, s.triggers) (FindsTrigger-IsFirstThat code at (λ t. t.destination == d) (λ p. destination_of code p ≡ d)
     (λ p t. eqb-true (destination_of code p) d t)
     (λ p q. eq-eqb (destination_of code p) d q)
-    (find (λ t. t.destination == d) (open_triggers code at)) (find_open code (λ t. t.destination == d) at))
+    (find (λ t. t.destination == d) (open_triggers code at))
+    (FindsTrigger-open_triggers code (λ t. t.destination == d) at))
 
 -- C1
 
-pub zero_found : (code : List ℕ) (at : ℕ) → kind_at code at ≡ Some kinds.Trigger → destination_of code at ≡ 31
+pub ZeroDestination-found : (code : List ℕ) (at : ℕ) → kind_at code at ≡ Some kinds.Trigger
+    → destination_of code at ≡ 31
     → IsFirstBroken code at ZeroDestination (Some at)
-zero_found code at k e = (
+ZeroDestination-found code at k e = (
   record {
     trigger_kind = k;
     order = omega arith;
@@ -106,10 +109,10 @@ zero_found code at k e = (
   λ p b. let h = b.holds.0 in omega arith,
 )
 
-pub zero_missing : (code : List ℕ) (at : ℕ)
+pub ZeroDestination-missing : (code : List ℕ) (at : ℕ)
     → ((kind_at code at ≡ Some kinds.Trigger) × (destination_of code at ≡ 31) → ⊥)
     → IsFirstBroken code at ZeroDestination None
-zero_missing code at not = λ p b.
+ZeroDestination-missing code at not = λ p b.
     let k = subst (λ n. kind_at code n ≡ Some kinds.Trigger) (sym b.holds.0) b.trigger_kind in
     let d = subst (λ n. destination_at code n ≡ Some 31) (sym b.holds.0) b.holds.1 in
     let t = trigger_destination code at k in
@@ -230,8 +233,8 @@ source_lost-first code w at r end word s unbroken h e small either = record {
   };
 }
 
-pub lost_nothing : (code : List ℕ) (at : ℕ) → sets_at code at ≡ None → IsFirstBroken code at SourceLost None
-lost_nothing code at e = λ p b. let again = b.holds.1 in cc
+pub SourceLost-no_set : (code : List ℕ) (at : ℕ) → sets_at code at ≡ None → IsFirstBroken code at SourceLost None
+SourceLost-no_set code at e = λ p b. let again = b.holds.1 in cc
 
 lost_within : (code : List ℕ) (w : Window) (at r end p : ℕ) → MayLose code w at r end → IsOpen code p at
     → IsLost code at r p ↔ ((slice_index w.set.ends r ≤ p) × (p < end))
@@ -253,7 +256,7 @@ lost_open : (code : List ℕ) (w : Window) (at r end p : ℕ) → MayLose code w
 lost_open code w at r end p m o =
     let within = lost_within code w at r end p m o in (
       λ b. within.0 (holds_lost code at p r m.unbroken m.sets b),
-      λ h. open_broken code p at SourceLost o
+      λ h. IsOpen-IsBroken code p at SourceLost o
           (lost_holds code at p r (let b = o.before in omega arith) m.sets (within.1 h)),
     )
 
@@ -267,22 +270,22 @@ lost_here code w at r end p m b e = (
       (holds_lost code at p r m.unbroken m.sets b).used,
 )
 
-pub lost_found : (code : List ℕ) (w : Window) (at r end first : ℕ) → MayLose code w at r end
+pub SourceLost-found : (code : List ℕ) (w : Window) (at r end first : ℕ) → MayLose code w at r end
     → IsFirstThat code at (λ p. (slice_index w.set.ends r ≤ p) × (p < end)) (Some first)
     → IsFirstBroken code at SourceLost (Some first)
-lost_found code w at r end first m f = (
+SourceLost-found code w at r end first m f = (
   (lost_open code w at r end first m f.0).1 f.1,
   λ p b. ⊎_elim
       (λ (e : p ≡ at). let before = f.0.before in omega arith)
-      (λ not. let o = broken_open code p at SourceLost b not in f.2 p o ((lost_open code w at r end p m o).0 b))
+      (λ not. let o = IsBroken-IsOpen code p at SourceLost b not in f.2 p o ((lost_open code w at r end p m o).0 b))
       (cases_eq p at),
 )
 
-pub lost_by_itself : (code : List ℕ) (w : Window) (at r end : ℕ) → MayLose code w at r end
+pub SourceLost-by_itself : (code : List ℕ) (w : Window) (at r end : ℕ) → MayLose code w at r end
     → kind_at code at ≡ Some kinds.Trigger → Uses code at r
     → IsFirstThat code at (λ p. (slice_index w.set.ends r ≤ p) × (p < end)) None
     → IsFirstBroken code at SourceLost (Some at)
-lost_by_itself code w at r end m k u f = (
+SourceLost-by_itself code w at r end m k u f = (
   record {
     trigger_kind = k;
     order = omega arith;
@@ -293,63 +296,66 @@ lost_by_itself code w at r end m k u f = (
   },
   λ p b. ⊎_elim
       (λ (e : p ≡ at). omega arith)
-      (λ not. let o = broken_open code p at SourceLost b not in absurd (f p o ((lost_open code w at r end p m o).0 b)))
+      (λ not. let o = IsBroken-IsOpen code p at SourceLost b not in
+      absurd (f p o ((lost_open code w at r end p m o).0 b)))
       (cases_eq p at),
 )
 
-pub lost_missing : (code : List ℕ) (w : Window) (at r end : ℕ) → MayLose code w at r end
+pub SourceLost-missing : (code : List ℕ) (w : Window) (at r end : ℕ) → MayLose code w at r end
     → ((kind_at code at ≡ Some kinds.Trigger) × Uses code at r → ⊥)
     → IsFirstThat code at (λ p. (slice_index w.set.ends r ≤ p) × (p < end)) None → IsFirstBroken code at SourceLost None
-lost_missing code w at r end m not f = λ p b. ⊎_elim
+SourceLost-missing code w at r end m not f = λ p b. ⊎_elim
     (λ (e : p ≡ at). not (lost_here code w at r end p m b e))
-    (λ apart. let o = broken_open code p at SourceLost b apart in f p o ((lost_open code w at r end p m o).0 b))
+    (λ apart. let o = IsBroken-IsOpen code p at SourceLost b apart in f p o ((lost_open code w at r end p m o).0 b))
     (cases_eq p at)
 
 -- the word is a trigger that uses the register
-pub lost_or_itself : (code : List ℕ) (w : Window) (at r end : ℕ) → MayLose code w at r end
+pub SourceLost-or_itself : (code : List ℕ) (w : Window) (at r end : ℕ) → MayLose code w at r end
     → kind_at code at ≡ Some kinds.Trigger → Uses code at r
     → (o : Option ℕ) → IsFirstThat code at (λ p. (slice_index w.set.ends r ≤ p) × (p < end)) o
     → IsFirstBroken code at SourceLost (option_or o (Some at))
-lost_or_itself code w at r end m k u None f = lost_by_itself code w at r end m k u f
-lost_or_itself code w at r end m k u (Some first) f = lost_found code w at r end first m f
+SourceLost-or_itself code w at r end m k u None f = SourceLost-by_itself code w at r end m k u f
+SourceLost-or_itself code w at r end m k u (Some first) f = SourceLost-found code w at r end first m f
 
 -- the word is no trigger that uses the register
-pub lost_first : (code : List ℕ) (w : Window) (at r end : ℕ) → MayLose code w at r end
+pub SourceLost-first : (code : List ℕ) (w : Window) (at r end : ℕ) → MayLose code w at r end
     → ((kind_at code at ≡ Some kinds.Trigger) × Uses code at r → ⊥)
     → (o : Option ℕ) → IsFirstThat code at (λ p. (slice_index w.set.ends r ≤ p) × (p < end)) o
     → IsFirstBroken code at SourceLost o
-lost_first code w at r end m not None f = lost_missing code w at r end m not f
-lost_first code w at r end m not (Some first) f = lost_found code w at r end first m f
+SourceLost-first code w at r end m not None f = SourceLost-missing code w at r end m not f
+SourceLost-first code w at r end m not (Some first) f = SourceLost-found code w at r end first m f
 
 -- C3
 
-pub same_found : (code : List ℕ) (at d : ℕ) → kind_at code at ≡ Some kinds.Trigger → destination_of code at ≡ d
+pub SameDestination-found : (code : List ℕ) (at d : ℕ) → kind_at code at ≡ Some kinds.Trigger
+    → destination_of code at ≡ d
     → (o : Option ℕ) → IsFirstThat code at (λ p. destination_of code p ≡ d) o → IsFirstBroken code at SameDestination o
-same_found code at d k e = by_first code at SameDestination (λ p. destination_of code p ≡ d)
+SameDestination-found code at d k e = IsFirstBroken-IsFirstThat code at SameDestination (λ p. destination_of code p ≡ d)
     (λ p o same.
     (o.before, k, trigger_destination code at k ∙ (ap Some (e ∙ sym same) ∙ sym (trigger_destination code p o.kind))))
     (λ p b.
     let before = b.holds.0 in
-    let o = broken_open code p at SameDestination b (λ n. omega arith) in
+    let o = IsBroken-IsOpen code p at SameDestination b (λ n. omega arith) in
     let t = trigger_destination code at k in
     let u = trigger_destination code p o.kind in
     let h = b.holds.2 in
     (o, cc))
 
-pub same_missing : (code : List ℕ) (at : ℕ) → kind_at code at ≢ Some kinds.Trigger
+pub SameDestination-missing : (code : List ℕ) (at : ℕ) → kind_at code at ≢ Some kinds.Trigger
     → IsFirstBroken code at SameDestination None
-same_missing code at not = λ p b. not b.holds.1
+SameDestination-missing code at not = λ p b. not b.holds.1
 
 -- C4
 
 pub WildBase-first_open : (code : List ℕ) (w : Window) (at : ℕ) (a : MemAccess) → Summarizes code w at → a.base < 32
     → access_at code at ≡ Some a
     → (o : Option ℕ) → IsFirstThat code at (λ p. p < slice_index w.set.ends a.base) o → IsFirstBroken code at WildBase o
-WildBase-first_open code w at a s small e = by_first code at WildBase (λ p. p < slice_index w.set.ends a.base)
+WildBase-first_open code w at a s small e =
+    IsFirstBroken-IsFirstThat code at WildBase (λ p. p < slice_index w.set.ends a.base)
     (λ p o q. (o.before, (a, e, (s.set.tells p a.base o small).1 q)))
     (λ p b.
     let before = b.holds.0 in
-    let o = broken_open code p at WildBase b (λ n. omega arith) in
+    let o = IsBroken-IsOpen code p at WildBase b (λ n. omega arith) in
     let h = b.holds.1 in
     let again = h.1 in
     let same : h.0 ≡ a = cc in
@@ -386,48 +392,49 @@ touches_store code at p a k e t within =
 
 store_first : (code : List ℕ) (at : ℕ) (o : Option ℕ) → IsFirstThat code at (λ p. Holds code p at LoadThenStore) o
     → IsFirstBroken code at LoadThenStore o
-store_first code at = by_first code at LoadThenStore (λ p. Holds code p at LoadThenStore)
+store_first code at = IsFirstBroken-IsFirstThat code at LoadThenStore (λ p. Holds code p at LoadThenStore)
     (λ p o m. m)
     (λ p b.
-    (broken_open code p at LoadThenStore b (λ n. let x = b.holds.1 in let y = b.holds.2 in omega arith), b.holds))
+    (IsBroken-IsOpen code p at LoadThenStore b (λ n. let x = b.holds.1 in let y = b.holds.2 in omega arith), b.holds))
 
-pub store_found : (code : List ℕ) (at : ℕ) (a : MemAccess) → kind_at code at ≡ Some kinds.Store
+pub LoadThenStore-found : (code : List ℕ) (at : ℕ) (a : MemAccess) → kind_at code at ≡ Some kinds.Store
     → access_at code at ≡ Some a
     → LoadTouches code at (reach_of a) → (o : Option ℕ) → IsFirstThat code at (λ p. Unit {0}) o
     → IsFirstBroken code at LoadThenStore o
-store_found code at a k e t None f = absurd (f t.trigger t.open_there tt)
-store_found code at a k e t (Some first) f = store_first code at (Some first)
-    (first_has code at (λ p. Holds code p at LoadThenStore) first f
+LoadThenStore-found code at a k e t None f = absurd (f t.trigger t.open_there tt)
+LoadThenStore-found code at a k e t (Some first) f = store_first code at (Some first)
+    (IsFirstThat-first_has code at (λ p. Holds code p at LoadThenStore) first f
     (touches_store code at first a k e t (f.2 t.trigger t.open_there tt)))
 
-pub store_missing : (code : List ℕ) (at : ℕ) (a : MemAccess) → access_at code at ≡ Some a
+pub LoadThenStore-missing : (code : List ℕ) (at : ℕ) (a : MemAccess) → access_at code at ≡ Some a
     → (LoadTouches code at (reach_of a) → ⊥)
     → IsFirstBroken code at LoadThenStore None
-store_missing code at a e not = store_first code at None (λ p o m. not (store_touches code at p a e o m))
+LoadThenStore-missing code at a e not = store_first code at None (λ p o m. not (store_touches code at p a e o m))
 
-pub no_store : (code : List ℕ) (at : ℕ) → ((kind_at code at ≡ Some kinds.Store) × (access_at code at ≢ None) → ⊥)
+pub LoadThenStore-no_store : (code : List ℕ) (at : ℕ)
+    → ((kind_at code at ≡ Some kinds.Store) × (access_at code at ≢ None) → ⊥)
     → IsFirstBroken code at LoadThenStore None
-no_store code at not =
+LoadThenStore-no_store code at not =
     store_first code at None (λ p o m. let here = m.3.1.1 in not (here.2, λ e. let again = here.3 in cc))
 
 -- C6 and C7
 
 pub locked_first : (code : List ℕ) (at : ℕ) → kind_at code at ≡ Some kinds.Locked → (o : Option ℕ)
     → IsFirstThat code at (λ p. Unit {0}) o → IsFirstBroken code at Locked o
-locked_first code at k = by_first code at Locked (λ p. Unit {0})
+locked_first code at k = IsFirstBroken-IsFirstThat code at Locked (λ p. Unit {0})
     (λ p o u. k)
     (λ p b. (
-      broken_open code p at Locked b
+      IsBroken-IsOpen code p at Locked b
           (λ n. let t = subst (λ m. kind_at code m ≡ Some kinds.Trigger) n b.trigger_kind in cc),
       tt,
     ))
 
 pub turn_first : (code : List ℕ) (at : ℕ) → kind_at code at ≡ Some kinds.Turn → (o : Option ℕ)
     → IsFirstThat code at (λ p. Unit {0}) o → IsFirstBroken code at Turn o
-turn_first code at k = by_first code at Turn (λ p. Unit {0})
+turn_first code at k = IsFirstBroken-IsFirstThat code at Turn (λ p. Unit {0})
     (λ p o u. k)
     (λ p b. (
-      broken_open code p at Turn b
+      IsBroken-IsOpen code p at Turn b
           (λ n. let t = subst (λ m. kind_at code m ≡ Some kinds.Trigger) n b.trigger_kind in cc),
       tt,
     ))
@@ -441,4 +448,6 @@ turn_missing code at not = λ p b. not b.holds
 -- no trigger is open
 pub WildBase-none_open : (code : List ℕ) (at : ℕ) → IsFirstThat code at (λ p. Unit {0}) None
     → IsFirstBroken code at WildBase None
-WildBase-none_open code at f = λ p b. let e = b.holds.0 in f p (broken_open code p at WildBase b (λ n. omega arith)) tt
+WildBase-none_open code at f =
+    λ p b. let e = b.holds.0 in
+    f p (IsBroken-IsOpen code p at WildBase b (λ n. omega arith)) tt

@@ -15,11 +15,11 @@ use Rattle.alpha_shadow.specs.Broken.{IsBroken, IsAccepted}
 use Rattle.alpha_shadow.specs.Least.{IsLeastBroken, condition_number}
 use Rattle.alpha_shadow.specs.Window.{Summarizes, IsUnbroken, IsOpen, IsFirstThat, HasRoom, open_triggers, open_loads}
 use Rattle.alpha_shadow.specs.Place.{IsLeastUpTo}
-use Rattle.alpha_shadow.proofs.WordColumns.{kind_within, past_end}
-use Rattle.alpha_shadow.proofs.Shadows.{no_triggers, triggers_room, first_there}
+use Rattle.alpha_shadow.proofs.WordColumns.{kind_within, class_at-past_end}
+use Rattle.alpha_shadow.proofs.Shadows.{open_triggers-nil, open_triggers-length_bound, open_triggers-IsOpen}
 use Rattle.alpha_shadow.proofs.OpenLoads.{no_loads, loads_room}
-use Rattle.alpha_shadow.proofs.BreakingTriggers.{broken_open, open_broken}
-use Rattle.alpha_shadow.proofs.LongShadows.{not_past}
+use Rattle.alpha_shadow.proofs.BreakingTriggers.{IsBroken-IsOpen, IsOpen-IsBroken}
+use Rattle.alpha_shadow.proofs.LongShadows.{IsOpen-bound}
 use Rattle.alpha_shadow.proofs.LeastBrokenSteps.{number_bound}
 
 -- what was broken at no place before, nor at this one, is broken at no place before the next
@@ -30,22 +30,23 @@ unbroken_more code at before here = λ p place c below b. ⊎_elim
     (λ not. before p place c (omega arith) b)
     (cases_eq place at)
 
-pub unbroken_passed : (code : List ℕ) (at : ℕ) → IsUnbroken code at → IsLeastUpTo code at 9 None
+pub IsUnbroken-next : (code : List ℕ) (at : ℕ) → IsUnbroken code at → IsLeastUpTo code at 9 None
     → IsUnbroken code (at + 1)
-unbroken_passed code at before none = unbroken_more code at before (λ p c b. none p c (number_bound c) b)
+IsUnbroken-next code at before none = unbroken_more code at before (λ p c b. none p c (number_bound c) b)
 
-pub unbroken_skipped : (code : List ℕ) (at : ℕ) (w : Window) (kind : InsnKind) → Summarizes code w at
+pub IsUnbroken-skip : (code : List ℕ) (at : ℕ) (w : Window) (kind : InsnKind) → Summarizes code w at
     → kind_at code at ≡ Some kind → w.triggers.items ≡ [] → kind ≢ kinds.Trigger
     → IsUnbroken code at → IsUnbroken code (at + 1)
-unbroken_skipped code at w kind s k t other before = unbroken_more code at before (λ p c b. ⊎_elim
+IsUnbroken-skip code at w kind s k t other before = unbroken_more code at before (λ p c b. ⊎_elim
     (λ (e : p ≡ at). let q = subst (λ n. kind_at code n ≡ Some kinds.Trigger) e b.trigger_kind in other cc)
-    (λ not. no_triggers code at (sym s.triggers ∙ t) p (broken_open code p at c b not))
+    (λ not. open_triggers-nil code at (sym s.triggers ∙ t) p (IsBroken-IsOpen code p at c b not))
     (cases_eq p at))
 
 -- the least broken place at the first place that is broken at all
-pub found_least : (code : List ℕ) (at : ℕ) (b : Broken) → IsUnbroken code at → IsLeastUpTo code at 9 (Some b)
+pub IsUnbroken-IsLeastBroken : (code : List ℕ) (at : ℕ) (b : Broken) → IsUnbroken code at
+    → IsLeastUpTo code at 9 (Some b)
     → IsLeastBroken code b
-found_least code at b before f = record {
+IsUnbroken-IsLeastBroken code at b before f = record {
   broken = subst (λ n. IsBroken code b.trigger n b.condition) (sym f.place) f.broken;
   least = λ p place c q. ⊎_elim
       (λ (e : place ≡ at). inr (f.place ∙ sym e, f.least p c (number_bound c) (subst (λ n. IsBroken code p n c) e q)))
@@ -73,30 +74,37 @@ reaches_end code p place c before b =
       beyond,
     )
 
-pub end_accepted : (code : List ℕ) (w : Window) → Summarizes code w (length code) → IsUnbroken code (length code)
+pub IsUnbroken-end_accepted : (code : List ℕ) (w : Window) → Summarizes code w (length code)
+    → IsUnbroken code (length code)
     → IsFirstThat code (length code) (λ p. Unit {0}) None → IsAccepted code
-end_accepted code w s before f = λ p place c b. f p (reaches_end code p place c before b).0 tt
+IsUnbroken-end_accepted code w s before f = λ p place c b. f p (reaches_end code p place c before b).0 tt
 
 -- what holds one past the last word holds from C8 on
 open_first : (code : List ℕ) (p : ℕ) (c : Condition) → IsBroken code p (length code) c → 8 ≤ condition_number c
 open_first code p ZeroDestination b =
     let w = trigger_within code p (length code) ZeroDestination b in
     absurd (omega (arith, b.holds.0))
-open_first code p SourceLost b = let n = past_end code (length code) (omega arith) in let s = b.holds.1 in cc
-open_first code p SameDestination b = let n = past_end code (length code) (omega arith) in let s = b.holds.1 in cc
-open_first code p WildBase b = let n = past_end code (length code) (omega arith) in let s = b.holds.1.1 in cc
-open_first code p LoadThenStore b = let n = past_end code (length code) (omega arith) in let s = b.holds.3.1.1.2 in cc
-open_first code p Locked b = let n = past_end code (length code) (omega arith) in let s = b.holds in cc
-open_first code p Turn b = let n = past_end code (length code) (omega arith) in let s = b.holds in cc
+open_first code p SourceLost b = let n = class_at-past_end code (length code) (omega arith) in let s = b.holds.1 in cc
+open_first code p SameDestination b =
+    let n = class_at-past_end code (length code) (omega arith) in
+    let s = b.holds.1 in
+    cc
+open_first code p WildBase b = let n = class_at-past_end code (length code) (omega arith) in let s = b.holds.1.1 in cc
+open_first code p LoadThenStore b =
+    let n = class_at-past_end code (length code) (omega arith) in
+    let s = b.holds.3.1.1.2 in
+    cc
+open_first code p Locked b = let n = class_at-past_end code (length code) (omega arith) in let s = b.holds in cc
+open_first code p Turn b = let n = class_at-past_end code (length code) (omega arith) in let s = b.holds in cc
 open_first code p Open b = omega arith
 open_first code p Long b = omega arith
 
-pub end_least : (code : List ℕ) (w : Window) (first : ℕ) → Summarizes code w (length code)
+pub IsUnbroken-end_open : (code : List ℕ) (w : Window) (first : ℕ) → Summarizes code w (length code)
     → IsUnbroken code (length code)
     → IsFirstThat code (length code) (λ p. Unit {0}) (Some first)
     → IsLeastBroken code (record { trigger = first; at = length code; condition = Open })
-end_least code w first s before f = record {
-  broken = open_broken code first (length code) Open f.0 refl;
+IsUnbroken-end_open code w first s before f = record {
+  broken = IsOpen-IsBroken code first (length code) Open f.0 refl;
   least = λ p place c b.
       let r = reaches_end code p place c before b in
       ⊎_elim
@@ -124,8 +132,8 @@ IsUnbroken-HasRoom_near : (code : List ℕ) (at first : ℕ) (kind : InsnKind) �
 IsUnbroken-HasRoom_near code at first kind before none within k other o = ⊎_elim
     (λ (l : at < first + 1025). l)
     (λ (l : first + 1025 ≤ at).
-    let e : at ≡ first + 1025 = let n = not_past code at first before (omega arith) o in omega arith in
-    absurd (none first Long (number_bound Long) (open_broken code first at Long o (e, within, λ b. other cc))))
+    let e : at ≡ first + 1025 = let n = IsOpen-bound code at first before (omega arith) o in omega arith in
+    absurd (none first Long (number_bound Long) (IsOpen-IsBroken code first at Long o (e, within, λ b. other cc))))
     (cases_lt at (first + 1025))
 
 open_triggers-bound : (code : List ℕ) (at : ℕ) (kind : InsnKind) → IsUnbroken code at → IsLeastUpTo code at 9 None
@@ -137,8 +145,9 @@ open_triggers-bound code at kind before none within k other [] e =
     (rw e (lit< tt), rw (no_loads code at e) (lit< tt))
 open_triggers-bound code at kind before none within k other (t ∷ ts) e =
     let first : slice_get (open_triggers code at) 0 ≡ Some t = ap (λ l. slice_get l 0) e in
-    let close = IsUnbroken-HasRoom_near code at t.place kind before none within k other (first_there code at t ts e) in
-    let triggers = triggers_room code at t first in
+    let close =
+    IsUnbroken-HasRoom_near code at t.place kind before none within k other (open_triggers-IsOpen code at t ts e) in
+    let triggers = open_triggers-length_bound code at t first in
     let loads = loads_room code at t first in
     (omega arith, omega arith)
 

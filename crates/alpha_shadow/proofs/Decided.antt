@@ -18,7 +18,7 @@ use Rattle.alpha_shadow.specs.Broken.{Holds, IsBroken, IsAccepted}
 use Rattle.alpha_shadow.specs.Least.{IsLeastBroken, condition_number}
 use Rattle.alpha_shadow.specs.Reach.{reach_of, MayTouch}
 use Rattle.alpha_shadow.proofs.ConditionNumbers.{condition_of_number, condition_of_number-condition_number}
-use Rattle.alpha_shadow.proofs.WordColumns.{kind_within, past_end}
+use Rattle.alpha_shadow.proofs.WordColumns.{kind_within, class_at-past_end}
 use Rattle.alpha_shadow.proofs.LeastBrokenSteps.{number_bound}
 
 -- a fact that holds, or doesn't
@@ -252,21 +252,37 @@ IsBroken-decided code trigger at c = Decided-equivalent
 -- the least broken place
 
 -- no place past the end is broken
-pub not_past_end : (code : List ℕ) (trigger at : ℕ) (c : Condition) → length code < at → IsBroken code trigger at c → ⊥
-not_past_end code trigger at ZeroDestination past b =
+pub IsBroken-not_past_end : (code : List ℕ) (trigger at : ℕ) (c : Condition) → length code < at
+    → IsBroken code trigger at c → ⊥
+IsBroken-not_past_end code trigger at ZeroDestination past b =
     let w = kind_within code trigger kinds.Trigger b.trigger_kind in
     omega (arith, b.holds.0)
-not_past_end code trigger at SourceLost past b = let n = past_end code at (omega arith) in let s = b.holds.1 in cc
-not_past_end code trigger at SameDestination past b = let n = past_end code at (omega arith) in let s = b.holds.1 in cc
-not_past_end code trigger at WildBase past b = let n = past_end code at (omega arith) in let s = b.holds.1.1 in cc
-not_past_end code trigger at LoadThenStore past b =
-    let n = past_end code at (omega arith) in
+IsBroken-not_past_end code trigger at SourceLost past b =
+    let n = class_at-past_end code at (omega arith) in
+    let s = b.holds.1 in
+    cc
+IsBroken-not_past_end code trigger at SameDestination past b =
+    let n = class_at-past_end code at (omega arith) in
+    let s = b.holds.1 in
+    cc
+IsBroken-not_past_end code trigger at WildBase past b =
+    let n = class_at-past_end code at (omega arith) in
+    let s = b.holds.1.1 in
+    cc
+IsBroken-not_past_end code trigger at LoadThenStore past b =
+    let n = class_at-past_end code at (omega arith) in
     let s = b.holds.3.1.1.2 in
     cc
-not_past_end code trigger at Locked past b = let n = past_end code at (omega arith) in let s = b.holds in cc
-not_past_end code trigger at Turn past b = let n = past_end code at (omega arith) in let s = b.holds in cc
-not_past_end code trigger at Open past b = let s = b.holds in omega arith
-not_past_end code trigger at Long past b = let s = b.holds.1 in omega arith
+IsBroken-not_past_end code trigger at Locked past b =
+    let n = class_at-past_end code at (omega arith) in
+    let s = b.holds in
+    cc
+IsBroken-not_past_end code trigger at Turn past b =
+    let n = class_at-past_end code at (omega arith) in
+    let s = b.holds in
+    cc
+IsBroken-not_past_end code trigger at Open past b = let s = b.holds in omega arith
+IsBroken-not_past_end code trigger at Long past b = let s = b.holds.1 in omega arith
 
 -- broken under the condition with this number
 record BrokenBy (code : List ℕ) (trigger at n : ℕ) : Type 0 where
@@ -333,8 +349,8 @@ assembled code at bound trigger n a t k = (
   },
 )
 
-pub accepted_or_broken : (code : List ℕ) → IsAccepted code ⊎ ((b : Broken) × IsLeastBroken code b)
-accepted_or_broken code = ⊎_elim
+pub IsAccepted-or_IsLeastBroken : (code : List ℕ) → IsAccepted code ⊎ ((b : Broken) × IsLeastBroken code b)
+IsAccepted-or_IsLeastBroken code = ⊎_elim
     (λ (a : (at : ℕ) × IsLeast (AnyBreaks code) (length code + 1) at).
     ⊎_elim
     (λ (t : (trigger : ℕ) × IsLeast (BreaksAt code a.0) (a.0 + 1) trigger).
@@ -346,7 +362,7 @@ accepted_or_broken code = ⊎_elim
     (λ none. let h = a.1.holds in absurd (none h.0 h.1 h.2))
     (least_below (BreaksAt code a.0) (Decided-BreaksAt code a.0) (a.0 + 1)))
     (λ none. inl (λ trigger at c b. ⊎_elim
-    (λ (past : length code < at). not_past_end code trigger at c past b)
+    (λ (past : length code < at). IsBroken-not_past_end code trigger at c past b)
     (λ (within : at ≤ length code). none at (omega arith) (any_breaks code trigger at c b))
     (cases_lt (length code) at)))
     (least_below (AnyBreaks code) (λ at. some_below (BreaksAt code at) (Decided-BreaksAt code at) (at + 1))

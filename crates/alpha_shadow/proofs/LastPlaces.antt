@@ -4,7 +4,7 @@ use Rattle.std.proofs.Common.{add-one}
 use Rattle.std.proofs.lemmas.Bool.{cases_eq}
 use Rattle.alpha_shadow.specs.Code.{Sets, Uses, SetIn}
 use Rattle.alpha_shadow.specs.Window.{IsOpen, UsedIn, AreEnds, Notes}
-use Rattle.alpha_shadow.proofs.Shadows.{open_cases}
+use Rattle.alpha_shadow.proofs.Shadows.{IsOpen-suc_cases}
 
 -- a word at a place did something with the register
 pub record MeetsRegister (In : ℕ → ℕ → ℕ → Type 0) (Here : ℕ → ℕ → Type 0) : Type 0 where
@@ -52,7 +52,7 @@ ends_next code at In Here before after m n ends = record {
       λ r. let w = ends.within r in
       ⊎_elim (λ q. let e = q.1 in omega arith) (λ q. let e = q.1 in omega arith) (n.either r);
   tells = λ p r h small.
-      let was = open_cases code at p (subst (IsOpen code p) (add-one at) h) in
+      let was = IsOpen-suc_cases code at p (subst (IsOpen code p) (add-one at) h) in
       let below : p ≤ at = let b = h.before in omega arith in
       let more = m.more p at r below in
       ⊎_elim

@@ -21,12 +21,13 @@ condition-split code at n p c d e within b = ⊎_elim
     (λ not. inl (omega arith))
     (cases_eq (condition_number d) (n + 1))
 
-pub none_next : (code : List ℕ) (at n : ℕ) (c : Condition) (found : Option Broken) → condition_number c ≡ n + 1
+pub IsLeastUpTo-none_broken : (code : List ℕ) (at n : ℕ) (c : Condition) (found : Option Broken)
+    → condition_number c ≡ n + 1
     → IsLeastUpTo code at n found
     → IsFirstBroken code at c None → IsLeastUpTo code at (n + 1) found
-none_next code at n c None e before next =
+IsLeastUpTo-none_broken code at n c None e before next =
     λ p d within b. ⊎_elim (λ q. before p d q b) (λ q. next p q.1) (condition-split code at n p c d e within b)
-none_next code at n c (Some found) e before next = record {
+IsLeastUpTo-none_broken code at n c (Some found) e before next = record {
   place = before.place;
   broken = before.broken;
   number = let q = before.number in omega arith;
@@ -35,10 +36,11 @@ none_next code at n c (Some found) e before next = record {
       ⊎_elim (λ q. before.least p d q b) (λ q. absurd (next p q.1)) (condition-split code at n p c d e within b);
 }
 
-pub same_next : (code : List ℕ) (at n : ℕ) (c : Condition) (found : Broken) (trigger : ℕ) → condition_number c ≡ n + 1
+pub IsLeastThere-kept : (code : List ℕ) (at n : ℕ) (c : Condition) (found : Broken) (trigger : ℕ)
+    → condition_number c ≡ n + 1
     → IsLeastThere code at n found
     → IsFirstBroken code at c (Some trigger) → found.trigger ≤ trigger → IsLeastThere code at (n + 1) found
-same_next code at n c found trigger e before next less = record {
+IsLeastThere-kept code at n c found trigger e before next less = record {
   place = before.place;
   broken = before.broken;
   number = let q = before.number in omega arith;
@@ -70,14 +72,15 @@ IsLeastThere-next code at n c found trigger e before next less = record {
 }
 
 -- C8 holds at no place of the code
-pub open_next : (code : List ℕ) (at : ℕ) (found : Option Broken) → at < length code → IsLeastUpTo code at 7 found
+pub IsLeastUpTo-open_skip : (code : List ℕ) (at : ℕ) (found : Option Broken) → at < length code
+    → IsLeastUpTo code at 7 found
     → IsLeastUpTo code at 8 found
-open_next code at found within before =
-    none_next code at 7 Open found refl before (λ p b. let e = b.holds in omega arith)
+IsLeastUpTo-open_skip code at found within before =
+    IsLeastUpTo-none_broken code at 7 Open found refl before (λ p b. let e = b.holds in omega arith)
 
 -- no condition was looked at yet
-pub nothing_yet : (code : List ℕ) (at : ℕ) → IsLeastUpTo code at 0 None
-nothing_yet code at = λ p d within b. positive d within
+pub IsLeastUpTo-zero : (code : List ℕ) (at : ℕ) → IsLeastUpTo code at 0 None
+IsLeastUpTo-zero code at = λ p d within b. positive d within
   where
     positive : (d : Condition) → condition_number d ≤ 0 → ⊥
     positive ZeroDestination h = omega arith
@@ -92,4 +95,4 @@ number_bound d = lit≤ tt
 pub IsLeastUpTo-skip : (code : List ℕ) (at n : ℕ) (c : Condition) (found : Option Broken) → condition_number c ≡ n + 1
     → IsFirstBroken code at c None
     → IsLeastUpTo code at n found → IsLeastUpTo code at (n + 1) found
-IsLeastUpTo-skip code at n c found e none before = none_next code at n c found e before none
+IsLeastUpTo-skip code at n c found e none before = IsLeastUpTo-none_broken code at n c found e before none

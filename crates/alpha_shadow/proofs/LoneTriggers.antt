@@ -10,21 +10,22 @@ use Rattle.alpha_shadow.specs.Code.{kind_at, Sets, Uses}
 use Rattle.alpha_shadow.specs.Broken.{IsBroken}
 use Rattle.alpha_shadow.specs.Place.{IsFirstBroken, IsLeastUpTo}
 use Rattle.alpha_shadow.specs.Window.{open_triggers}
-use Rattle.alpha_shadow.proofs.Shadows.{no_triggers}
-use Rattle.alpha_shadow.proofs.BreakingTriggers.{broken_open, locked_missing, turn_missing}
-use Rattle.alpha_shadow.proofs.LeastBrokenSteps.{IsLeastUpTo-skip, open_next}
+use Rattle.alpha_shadow.proofs.Shadows.{open_triggers-nil}
+use Rattle.alpha_shadow.proofs.BreakingTriggers.{IsBroken-IsOpen, locked_missing, turn_missing}
+use Rattle.alpha_shadow.proofs.LeastBrokenSteps.{IsLeastUpTo-skip, IsLeastUpTo-open_skip}
 
 -- what is broken there is broken for the trigger itself
 own_place : (code : List ℕ) (at p : ℕ) (c : Condition) → open_triggers code at ≡ [] → IsBroken code p at c → p ≡ at
 own_place code at p c none b = ⊎_elim
     (λ (e : p ≡ at). e)
-    (λ (not : p ≢ at). absurd (no_triggers code at none p (broken_open code p at c b not)))
+    (λ (not : p ≢ at). absurd (open_triggers-nil code at none p (IsBroken-IsOpen code p at c b not)))
     (cases_eq p at)
 
-pub alone_lost : (code : List ℕ) (at r : ℕ) → open_triggers code at ≡ [] → kind_at code at ≡ Some kinds.Trigger
+pub SourceLost-lone_trigger : (code : List ℕ) (at r : ℕ) → open_triggers code at ≡ []
+    → kind_at code at ≡ Some kinds.Trigger
     → Sets code at r → Uses code at r
     → IsFirstBroken code at SourceLost (Some at)
-alone_lost code at r none kind sets uses = (
+SourceLost-lone_trigger code at r none kind sets uses = (
   record {
     trigger_kind = kind;
     order = omega arith;
@@ -44,9 +45,10 @@ alone_lost code at r none kind sets uses = (
   λ p b. let e = own_place code at p SourceLost none b in omega arith,
 )
 
-pub alone_kept : (code : List ℕ) (at r : ℕ) → open_triggers code at ≡ [] → Sets code at r → (Uses code at r → ⊥)
+pub SourceLost-lone_trigger_none : (code : List ℕ) (at r : ℕ) → open_triggers code at ≡ [] → Sets code at r
+    → (Uses code at r → ⊥)
     → IsFirstBroken code at SourceLost None
-alone_kept code at r none sets kept = λ p b.
+SourceLost-lone_trigger_none code at r none sets kept = λ p b.
     let e = own_place code at p SourceLost none b in
     let h = b.holds in
     let again = h.1 in
@@ -70,5 +72,5 @@ trigger-alone code at found none kind within c2 =
     (λ p b. let e = own p LoadThenStore b in let h = b.holds in let l = h.1 in let m = h.2 in omega arith) c4 in
     let c6 = IsLeastUpTo-skip code at 5 Locked found refl (locked_missing code at (λ t. cc)) c5 in
     let c7 = IsLeastUpTo-skip code at 6 Turn found refl (turn_missing code at (λ t. cc)) c6 in
-    let c8 = open_next code at found within c7 in
+    let c8 = IsLeastUpTo-open_skip code at found within c7 in
     IsLeastUpTo-skip code at 8 Long found refl (λ p b. let e = own p Long b in let l = b.holds.0 in omega arith) c8

@@ -23,14 +23,14 @@ use Rattle.alpha_shadow.specs.Fetched.{HaveWords}
 use Rattle.alpha_shadow.specs.NoTrigger.{IsInsnAt, IsNoTrigger, AreNoTriggers, IsNextTrigger}
 use Rattle.alpha_shadow.proofs.WordColumns.{kind_at-class, kind_within}
 use Rattle.alpha_shadow.proofs.WindowSteps.{Summarizes-outside}
-use Rattle.alpha_shadow.proofs.CodeWalk.{unbroken_skipped, end_accepted}
-use Rattle.alpha_shadow.proofs.Shadows.{no_triggers, first_there}
-use Rattle.alpha_shadow.proofs.BreakingTriggers.{open_broken}
+use Rattle.alpha_shadow.proofs.CodeWalk.{IsUnbroken-skip, IsUnbroken-end_accepted}
+use Rattle.alpha_shadow.proofs.Shadows.{open_triggers-nil, open_triggers-IsOpen}
+use Rattle.alpha_shadow.proofs.BreakingTriggers.{IsOpen-IsBroken}
 
 -- one quiet word more
-pub quiet_more : (code : List ℕ) (from to : ℕ) → AreNoTriggers code from to → IsNoTrigger code to
+pub AreNoTriggers-next : (code : List ℕ) (from to : ℕ) → AreNoTriggers code from to → IsNoTrigger code to
     → AreNoTriggers code from (to + 1)
-quiet_more code from to before here = λ k above below. ⊎_elim
+AreNoTriggers-next code from to before here = λ k above below. ⊎_elim
     (λ (l : k < to). before k above l)
     (λ (l : to ≤ k). let e : to ≡ k = omega arith in subst (IsNoTrigger code) e here)
     (cases_lt k to)
@@ -48,21 +48,22 @@ known_behind code at (suc n) w none quiet known =
     kind_at-class code (at + n) (class_of i) (kind_of i) (class_at-decoded_word code (at + n) i here.there) refl in
     subst (λ m. Summarizes code w m × IsUnbroken code m) (omega arith) (
       Summarizes-outside code (at + n) w (kind_of i) before.0 kind none here.other,
-      unbroken_skipped code (at + n) w (kind_of i) before.0 kind none here.other before.1,
+      IsUnbroken-skip code (at + n) w (kind_of i) before.0 kind none here.other before.1,
     )
 
-pub known_there : (code : List ℕ) (at to : ℕ) (w : Window) → at ≤ to → w.triggers.items ≡ [] → AreNoTriggers code at to
+pub Summarizes-AreNoTriggers : (code : List ℕ) (at to : ℕ) (w : Window) → at ≤ to → w.triggers.items ≡ []
+    → AreNoTriggers code at to
     → Summarizes code w at → IsUnbroken code at
     → Summarizes code w to × IsUnbroken code to
-known_there code at to w order none quiet s before =
+Summarizes-AreNoTriggers code at to w order none quiet s before =
     let e : at + (to - at) ≡ to = omega arith in
     subst (λ m. Summarizes code w m × IsUnbroken code m) e
     (known_behind code at (to - at) w none (subst (AreNoTriggers code at) (sym e) quiet) (s, before))
 
 -- before the first word no shadow is open
-pub none_first : (code : List ℕ) (w : Window) → Summarizes code w 0 → w.triggers.items ≡ []
+pub Summarizes-zero_no_triggers : (code : List ℕ) (w : Window) → Summarizes code w 0 → w.triggers.items ≡ []
 unfolding open_triggers
-none_first code w s = s.triggers
+Summarizes-zero_no_triggers code w s = s.triggers
 
 -- a shadow that is open where a word is neither a barrier nor breaks anything is open behind it
 straight_more : (code : List ℕ) (from at : ℕ) (kind : InsnKind) → Straight code from at → kind_at code at ≡ Some kind
@@ -74,12 +75,12 @@ straight_more code from at kind straight k other still = λ place above below. �
     ((λ q. other cc), (λ q. still cc)))
     (cases_lt place at)
 
-pub still_open : (code : List ℕ) (at : ℕ) (w after : Window) (kind : InsnKind) → Summarizes code w at
+pub Summarizes-still_open : (code : List ℕ) (at : ℕ) (w after : Window) (kind : InsnKind) → Summarizes code w at
     → kind_at code at ≡ Some kind → kind ≢ kinds.Barrier → IsLeastUpTo code at 9 None
     → ((w.triggers.items ≡ []) × (kind ≢ kinds.Trigger) → ⊥) → Summarizes code after (at + 1)
     → after.triggers.items ≢ []
-still_open code at w after kind s k other none loud next = λ closed.
-    let end : (p : ℕ) → IsOpen code p (at + 1) → ⊥ = no_triggers code (at + 1) (sym next.triggers ∙ closed) in
+Summarizes-still_open code at w after kind s k other none loud next = λ closed.
+    let end : (p : ℕ) → IsOpen code p (at + 1) → ⊥ = open_triggers-nil code (at + 1) (sym next.triggers ∙ closed) in
     let trigger : kind ≢ kinds.Trigger = λ t. end at (record {
       kind = k ∙ ap Some t;
       before = omega arith;
@@ -91,28 +92,29 @@ still_open code at w after kind s k other none loud next = λ closed.
         → kind ≢ kinds.Trigger → ⊥
     shadow [] e end trigger = loud (s.triggers ∙ e, trigger)
     shadow (t ∷ ts) e end trigger =
-        let o = first_there code at t ts e in
+        let o = open_triggers-IsOpen code at t ts e in
         end t.place (record {
           kind = o.kind;
           before = let b = o.before in omega arith;
           straight =
               straight_more code t.place at kind o.straight k other
-              (λ q. none t.place Turn (omega arith) (open_broken code t.place at Turn o (k ∙ ap Some q)));
+              (λ q. none t.place Turn (omega arith) (IsOpen-IsBroken code t.place at Turn o (k ∙ ap Some q)));
         })
 
 -- code whose rest is quiet, where no shadow is open and nothing is broken, is accepted
-pub rest_accepted : (code : List ℕ) (at : ℕ) (w : Window) → at ≤ length code
+pub AreNoTriggers-IsAccepted : (code : List ℕ) (at : ℕ) (w : Window) → at ≤ length code
     → (w.triggers.items ≡ []) × AreNoTriggers code at (length code) → Summarizes code w at → IsUnbroken code at
     → IsAccepted code
-rest_accepted code at w order quiet s before =
-    let known = known_there code at (length code) w order quiet.0 quiet.1 s before in
-    end_accepted code w known.0 known.1 (λ p o u. no_triggers code (length code) (sym known.0.triggers ∙ quiet.0) p o)
+AreNoTriggers-IsAccepted code at w order quiet s before =
+    let known = Summarizes-AreNoTriggers code at (length code) w order quiet.0 quiet.1 s before in
+    IsUnbroken-end_accepted code w known.0 known.1
+    (λ p o u. open_triggers-nil code (length code) (sym known.0.triggers ∙ quiet.0) p o)
 
 -- instructions that are no triggers are quiet words
-pub quiet_insns : (insns : List Form) (from to : ℕ) → HaveWords insns → to ≤ length insns
+pub AreNoTriggers-map_encoded : (insns : List Form) (from to : ℕ) → HaveWords insns → to ≤ length insns
     → ((k : ℕ) (i : Form) → from ≤ k → k < to → slice_get insns k ≡ Some i → kind_of i ≢ kinds.Trigger)
     → AreNoTriggers (map encoded insns) from to
-quiet_insns insns from to words order others = λ k above below. ⊎_elim
+AreNoTriggers-map_encoded insns from to words order others = λ k above below. ⊎_elim
     (λ (q : (x : Form) × (k < length insns) × (slice_get insns k ≡ Some x) × (get_or insns k x ≡ x)).
     record {
       insn = q.0;
@@ -123,14 +125,15 @@ quiet_insns insns from to words order others = λ k above below. ⊎_elim
     (slice_get_cases insns k).1
 
 -- and the first trigger behind them is the next one
-pub trigger_there : (insns : List Form) (from : ℕ) (next : NextTrigger) → HaveWords insns → from ≤ next.place
+pub IsNextTrigger-map_encoded : (insns : List Form) (from : ℕ) (next : NextTrigger) → HaveWords insns
+    → from ≤ next.place
     → next.place ≤ length insns
     → ((k : ℕ) (i : Form) → from ≤ k → k < next.place → slice_get insns k ≡ Some i → kind_of i ≢ kinds.Trigger)
     → slice_get insns next.place ≡ Some next.insn → kind_of next.insn ≡ kinds.Trigger
     → IsNextTrigger (map encoded insns) from next
-trigger_there insns from next words above within others there trigger = record {
+IsNextTrigger-map_encoded insns from next words above within others there trigger = record {
   above = above;
-  quiet = quiet_insns insns from next.place words within others;
+  quiet = AreNoTriggers-map_encoded insns from next.place words within others;
   there = decoded_there (map encoded insns) insns next.place next.insn words.known there;
   trigger = trigger;
 }
@@ -142,9 +145,9 @@ insn_within code at i there =
     (kind_at-class code at (class_of i) (kind_of i) (class_at-decoded_word code at i there) refl)
 
 -- the next trigger is one by its kind
-pub trigger_here : (code : List ℕ) (from : ℕ) (next : NextTrigger) → IsNextTrigger code from next
+pub IsNextTrigger-kind_at : (code : List ℕ) (from : ℕ) (next : NextTrigger) → IsNextTrigger code from next
     → kind_at code next.place ≡ Some kinds.Trigger
-trigger_here code from next found =
+IsNextTrigger-kind_at code from next found =
     kind_at-class code next.place (class_of next.insn) (kind_of next.insn)
     (class_at-decoded_word code next.place next.insn found.there) refl
     ∙ ap Some found.trigger

@@ -15,7 +15,8 @@ use Rattle.alpha_shadow.specs.Code.{kind_at, access_at}
 use Rattle.alpha_shadow.specs.Window.{IsOpen, LoadTouches, trigger_at, next_triggers, open_triggers, one_more_load}
 use Rattle.alpha_shadow.specs.Window.{next_loads, open_loads}
 use Rattle.alpha_shadow.specs.Reach.{reach_of, MayTouch}
-use Rattle.alpha_shadow.proofs.Shadows.{ShadowContinues, open_before, open_still, open_cases, first_there, no_triggers}
+use Rattle.alpha_shadow.proofs.Shadows.{ShadowContinues, IsOpen-ShadowContinues, IsOpen-suc, IsOpen-suc_cases}
+use Rattle.alpha_shadow.proofs.Shadows.{open_triggers-IsOpen, open_triggers-nil}
 
 -- the loads after one more word
 pub open_loads_next : (code : List ℕ) (at : ℕ) (kind : InsnKind) (access : Option MemAccess)
@@ -86,7 +87,7 @@ any_open_load code store (suc n) = by_kind (any_open_load code store n) (kind_at
     later : ShadowContinues code n → LoadTouches code n store → LoadTouches code (suc n) store
     later on l = record {
       trigger = l.trigger;
-      open_there = open_still code n l.trigger on l.open_there;
+      open_there = IsOpen-suc code n l.trigger on l.open_there;
       place = l.place;
       above = l.above;
       below = let b = l.below in omega arith;
@@ -99,7 +100,7 @@ any_open_load code store (suc n) = by_kind (any_open_load code store n) (kind_at
     earlier_open : (l : LoadTouches code (suc n) store) → IsOpen code l.trigger n
     earlier_open l =
         ⊎_elim (λ o. o) (λ w. let a = l.above in let b = l.below in absurd (omega (arith, w.0)))
-        (open_cases code n l.trigger l.open_there)
+        (IsOpen-suc_cases code n l.trigger l.open_there)
 
     earlier : (l : LoadTouches code (suc n) store) → l.place ≢ n → LoadTouches code n store
     earlier l not = record {
@@ -122,7 +123,7 @@ any_open_load code store (suc n) = by_kind (any_open_load code store n) (kind_at
     )
 
     ended : (ShadowContinues code n → ⊥) → Any P [] ↔ LoadTouches code (suc n) store
-    ended not = (λ h. absurd (any_nil P h), λ l. absurd (not (open_before code n l.trigger l.open_there)))
+    ended not = (λ h. absurd (any_nil P h), λ l. absurd (not (IsOpen-ShadowContinues code n l.trigger l.open_there)))
 
     -- one more load
     more : Any P (open_loads code n) ↔ LoadTouches code n store → kind_at code n ≡ Some kinds.Load
@@ -135,14 +136,14 @@ any_open_load code store (suc n) = by_kind (any_open_load code store n) (kind_at
     )
     more before e (Some a) f [] g = (
       λ h. later (λ b. cc, λ t. cc) (before.0 h),
-      λ l. absurd (no_triggers code n g l.trigger (earlier_open l)),
+      λ l. absurd (open_triggers-nil code n g l.trigger (earlier_open l)),
     )
     more before e (Some a) f (t ∷ ts) g = (
       λ h. ⊎_elim
           (λ q. later (λ b. cc, λ t. cc) (before.0 q))
-          (λ q. let there = first_there code n t ts g in record {
+          (λ q. let there = open_triggers-IsOpen code n t ts g in record {
             trigger = t.place;
-            open_there = open_still code n t.place (λ b. cc, λ t. cc) there;
+            open_there = IsOpen-suc code n t.place (λ b. cc, λ t. cc) there;
             place = n;
             above = there.before;
             below = omega arith;

@@ -17,8 +17,8 @@ use Rattle.alpha_shadow.specs.Window.{IsOpen, IsFirstThat, trigger_at, next_trig
 abbrev pub ShadowContinues : List ℕ → ℕ → Type 0
 ShadowContinues code n = (kind_at code n ≢ Some kinds.Barrier) × (kind_at code n ≢ Some kinds.Turn)
 
-pub open_before : (code : List ℕ) (n p : ℕ) → IsOpen code p (suc n) → ShadowContinues code n
-open_before code n p h = let b = h.before in h.straight n (omega arith) (omega arith)
+pub IsOpen-ShadowContinues : (code : List ℕ) (n p : ℕ) → IsOpen code p (suc n) → ShadowContinues code n
+IsOpen-ShadowContinues code n p h = let b = h.before in h.straight n (omega arith) (omega arith)
 
 pub Straight-suc : (code : List ℕ) (from n : ℕ) → Straight code from n → ShadowContinues code n
     → Straight code from (suc n)
@@ -27,20 +27,20 @@ Straight-suc code from n s on = λ k above below. ⊎_elim
     (λ (e : k ≡ n → ⊥). s k above (omega arith))
     (cases_eq k n)
 
-pub open_still : (code : List ℕ) (n p : ℕ) → ShadowContinues code n → IsOpen code p n → IsOpen code p (suc n)
-open_still code n p on h =
+pub IsOpen-suc : (code : List ℕ) (n p : ℕ) → ShadowContinues code n → IsOpen code p n → IsOpen code p (suc n)
+IsOpen-suc code n p on h =
     record { kind = h.kind; before = let b = h.before in omega arith; straight = Straight-suc code p n h.straight on }
 
-pub open_new : (code : List ℕ) (n : ℕ) → kind_at code n ≡ Some kinds.Trigger → IsOpen code n (suc n)
-open_new code n e = record {
+pub IsOpen-new_trigger : (code : List ℕ) (n : ℕ) → kind_at code n ≡ Some kinds.Trigger → IsOpen code n (suc n)
+IsOpen-new_trigger code n e = record {
   kind = e;
   before = omega arith;
   straight = Straight-suc code n n (λ k above below. absurd (omega arith)) (λ b. cc, λ t. cc);
 }
 
-pub open_cases : (code : List ℕ) (n p : ℕ) → IsOpen code p (suc n)
+pub IsOpen-suc_cases : (code : List ℕ) (n p : ℕ) → IsOpen code p (suc n)
     → IsOpen code p n ⊎ ((p ≡ n) × (kind_at code n ≡ Some kinds.Trigger))
-open_cases code n p h = ⊎_elim
+IsOpen-suc_cases code n p h = ⊎_elim
     (λ (e : p ≡ n). inr (e, subst (λ k. kind_at code k ≡ Some kinds.Trigger) e h.kind))
     (λ (e : p ≡ n → ⊥). inl (record {
       kind = h.kind;
@@ -64,12 +64,13 @@ FindsTrigger code at test (Some t) = IsFirstToPass code at test t
 finds_still : (code : List ℕ) (n : ℕ) (test : Trigger → Bool) → ShadowContinues code n
     → kind_at code n ≢ Some kinds.Trigger
     → (o : Option Trigger) → FindsTrigger code n test o → FindsTrigger code (suc n) test o
-finds_still code n test on not None f = λ p h passes. ⊎_elim (λ w. f p w passes) (λ w. not w.1) (open_cases code n p h)
+finds_still code n test on not None f =
+    λ p h passes. ⊎_elim (λ w. f p w passes) (λ w. not w.1) (IsOpen-suc_cases code n p h)
 finds_still code n test on not (Some t) f = record {
   same = f.same;
-  there = open_still code n t.place on f.there;
+  there = IsOpen-suc code n t.place on f.there;
   passes = f.passes;
-  least = λ p h passes. ⊎_elim (λ w. f.least p w passes) (λ w. absurd (not w.1)) (open_cases code n p h);
+  least = λ p h passes. ⊎_elim (λ w. f.least p w passes) (λ w. absurd (not w.1)) (IsOpen-suc_cases code n p h);
 }
 
 -- one more trigger
@@ -78,31 +79,32 @@ finds_more : (code : List ℕ) (n : ℕ) (test : Trigger → Bool) → kind_at c
     → FindsTrigger code (suc n) test (option_or o (cond b (Some (trigger_at code n)) None))
 finds_more code n test e (Some t) f b eb = record {
   same = f.same;
-  there = open_still code n t.place (λ b. cc, λ t. cc) f.there;
+  there = IsOpen-suc code n t.place (λ b. cc, λ t. cc) f.there;
   passes = f.passes;
   least = λ p h passes.
-      ⊎_elim (λ w. f.least p w passes) (λ w. let b = f.there.before in omega (arith, w.0)) (open_cases code n p h);
+      ⊎_elim (λ w. f.least p w passes) (λ w. let b = f.there.before in omega (arith, w.0))
+      (IsOpen-suc_cases code n p h);
 }
 finds_more code n test e None f true eb = record {
   same = refl;
-  there = open_new code n e;
+  there = IsOpen-new_trigger code n e;
   passes = eb;
-  least = λ p h passes. ⊎_elim (λ w. absurd (f p w passes)) (λ w. omega (arith, w.0)) (open_cases code n p h);
+  least = λ p h passes. ⊎_elim (λ w. absurd (f p w passes)) (λ w. omega (arith, w.0)) (IsOpen-suc_cases code n p h);
 }
 finds_more code n test e None f false eb = λ p h passes. ⊎_elim
     (λ w. f p w passes)
     (λ w. let q = subst (λ k. test (trigger_at code k) ≡ true) w.0 passes in cc)
-    (open_cases code n p h)
+    (IsOpen-suc_cases code n p h)
 
 -- a search of the open triggers finds the first that passes
-pub find_open : (code : List ℕ) (test : Trigger → Bool) (at : ℕ)
+pub FindsTrigger-open_triggers : (code : List ℕ) (test : Trigger → Bool) (at : ℕ)
     → FindsTrigger code at test (find test (open_triggers code at))
 unfolding open_triggers
-find_open code test zero = λ p h passes. let b = h.before in omega arith
-find_open code test (suc n) = by_kind (find_open code test n) (kind_at code n) refl
+FindsTrigger-open_triggers code test zero = λ p h passes. let b = h.before in omega arith
+FindsTrigger-open_triggers code test (suc n) = by_kind (FindsTrigger-open_triggers code test n) (kind_at code n) refl
   where
     ended : (ShadowContinues code n → ⊥) → FindsTrigger code (suc n) test None
-    ended not = λ p h passes. not (open_before code n p h)
+    ended not = λ p h passes. not (IsOpen-ShadowContinues code n p h)
 
     by_kind : FindsTrigger code n test (find test (open_triggers code n)) → (k : Option InsnKind) → kind_at code n ≡ k
         → FindsTrigger code (suc n) test (find test (next_triggers k (trigger_at code n) (open_triggers code n)))
@@ -115,23 +117,25 @@ find_open code test (suc n) = by_kind (find_open code test n) (kind_at code n) r
     by_kind before x e = finds_still code n test (λ b. cc, λ t. cc) (λ t. cc) _ before
 
 -- what a search says, where the test decides a fact of the trigger's place
-pub first_that : (code : List ℕ) (at : ℕ) (test : Trigger → Bool) (P : ℕ → Type 0)
+pub FindsTrigger-IsFirstThat : (code : List ℕ) (at : ℕ) (test : Trigger → Bool) (P : ℕ → Type 0)
     → ((p : ℕ) → test (trigger_at code p) ≡ true → P p) → ((p : ℕ) → P p → test (trigger_at code p) ≡ true)
     → (o : Option Trigger) → FindsTrigger code at test o → IsFirstThat code at P (option_map (λ t. t.place) o)
-first_that code at test P to from None f = λ p h holds. f p h (from p holds)
-first_that code at test P to from (Some t) f =
+FindsTrigger-IsFirstThat code at test P to from None f = λ p h holds. f p h (from p holds)
+FindsTrigger-IsFirstThat code at test P to from (Some t) f =
     (f.there, to t.place (subst (λ t. test t ≡ true) f.same f.passes), λ p h holds. f.least p h (from p holds))
 
-pub find_first : (ts : List Trigger) → find (λ t. true) ts ≡ slice_get ts 0
-find_first [] = refl
-find_first (t ∷ ts) = refl
+pub find-always_true : (ts : List Trigger) → find (λ t. true) ts ≡ slice_get ts 0
+find-always_true [] = refl
+find-always_true (t ∷ ts) = refl
 
 -- the first of the list is the first of all
-pub first_open : (code : List ℕ) (at : ℕ)
+pub IsFirstThat-open_triggers : (code : List ℕ) (at : ℕ)
     → IsFirstThat code at (λ p. Unit {0}) (option_map (λ t. t.place) (slice_get (open_triggers code at) 0))
-first_open code at =
-    first_that code at (λ t. true) (λ p. Unit {0}) (λ p e. tt) (λ p u. refl) (slice_get (open_triggers code at) 0)
-    (subst (FindsTrigger code at (λ t. true)) (find_first (open_triggers code at)) (find_open code (λ t. true) at))
+IsFirstThat-open_triggers code at =
+    FindsTrigger-IsFirstThat code at (λ t. true) (λ p. Unit {0}) (λ p e. tt) (λ p u. refl)
+    (slice_get (open_triggers code at) 0)
+    (subst (FindsTrigger code at (λ t. true)) (find-always_true (open_triggers code at))
+    (FindsTrigger-open_triggers code (λ t. true) at))
 
 -- the list after one more word
 pub open_triggers_next : (code : List ℕ) (at : ℕ) (kind : InsnKind) (destination : ℕ) → kind_at code at ≡ Some kind
@@ -142,11 +146,11 @@ unfolding open_triggers
 open_triggers_next code at kind destination e f = rw (add-one, e, f) refl
 
 -- the places of the open triggers are different: a list that begins at a place is no longer than the words from there
-pub triggers_room : (code : List ℕ) (at : ℕ) (f : Trigger) → slice_get (open_triggers code at) 0 ≡ Some f
+pub open_triggers-length_bound : (code : List ℕ) (at : ℕ) (f : Trigger) → slice_get (open_triggers code at) 0 ≡ Some f
     → f.place + length (open_triggers code at) ≤ at
 unfolding open_triggers
-triggers_room code zero f e = cc
-triggers_room code (suc n) f e = by_kind (triggers_room code n) (kind_at code n) refl e
+open_triggers-length_bound code zero f e = cc
+open_triggers-length_bound code (suc n) f e = by_kind (open_triggers-length_bound code n) (kind_at code n) refl e
   where
     more : (ts : List Trigger) → ((f : Trigger) → slice_get ts 0 ≡ Some f → f.place + length ts ≤ n)
         → slice_get (ts ++ trigger_at code n ∷ []) 0 ≡ Some f → f.place + length (ts ++ trigger_at code n ∷ []) ≤ suc n
@@ -168,14 +172,14 @@ triggers_room code (suc n) f e = by_kind (triggers_room code n) (kind_at code n)
     by_kind before None k e = let room = before f e in omega arith
 
 -- the first of the list is open
-pub first_there : (code : List ℕ) (at : ℕ) (t : Trigger) (ts : List Trigger) → open_triggers code at ≡ t ∷ ts
+pub open_triggers-IsOpen : (code : List ℕ) (at : ℕ) (t : Trigger) (ts : List Trigger) → open_triggers code at ≡ t ∷ ts
     → IsOpen code t.place at
-first_there code at t ts e =
+open_triggers-IsOpen code at t ts e =
     (subst (λ ts. IsFirstThat code at (λ p. Unit {0}) (option_map (λ t. t.place) (slice_get ts 0))) e
-    (first_open code at)).0
+    (IsFirstThat-open_triggers code at)).0
 
 -- an empty list leaves no open trigger
-pub no_triggers : (code : List ℕ) (at : ℕ) → open_triggers code at ≡ [] → (p : ℕ) → IsOpen code p at → ⊥
-no_triggers code at e p h =
+pub open_triggers-nil : (code : List ℕ) (at : ℕ) → open_triggers code at ≡ [] → (p : ℕ) → IsOpen code p at → ⊥
+open_triggers-nil code at e p h =
     subst (λ ts. IsFirstThat code at (λ p. Unit {0}) (option_map (λ t. t.place) (slice_get ts 0))) e
-    (first_open code at) p h tt
+    (IsFirstThat-open_triggers code at) p h tt

@@ -17,7 +17,7 @@ use Rattle.alpha_shadow.specs.Columns.{HasColumns, destination_of}
 use Rattle.alpha_shadow.specs.Window.{Summarizes, UsedIn, AreEnds, Notes, next_triggers, open_triggers, next_loads}
 use Rattle.alpha_shadow.specs.Window.{open_loads}
 use Rattle.alpha_shadow.specs.Reach.{reach_of}
-use Rattle.alpha_shadow.proofs.Shadows.{open_triggers_next, no_triggers}
+use Rattle.alpha_shadow.proofs.Shadows.{open_triggers_next, open_triggers-nil}
 use Rattle.alpha_shadow.proofs.OpenLoads.{open_loads_next, no_loads}
 use Rattle.alpha_shadow.proofs.LastPlaces.{set_meets, used_meets, ends_next, ends_skip}
 
@@ -100,8 +100,8 @@ Summarizes-outside code at w kind s k t other =
     record {
       triggers = t ∙ sym none_next;
       loads = (s.loads ∙ no_loads code at none) ∙ sym (no_loads code (at + 1) none_next);
-      set = ends_skip code at (SetIn code) w.set.ends (no_triggers code (at + 1) none_next) s.set;
-      used = ends_skip code at (UsedIn code) w.used.ends (no_triggers code (at + 1) none_next) s.used;
+      set = ends_skip code at (SetIn code) w.set.ends (open_triggers-nil code (at + 1) none_next) s.set;
+      used = ends_skip code at (UsedIn code) w.used.ends (open_triggers-nil code (at + 1) none_next) s.used;
     }
   where
     still : (k : InsnKind) → k ≢ kinds.Trigger → (t : Trigger) → next_triggers (Some k) t [] ≡ []

@@ -17,16 +17,16 @@ pub kind_at-class : (code : List ℕ) (at : ℕ) (c : Class) (k : InsnKind) → 
     → kind_at code at ≡ Some k
 kind_at-class code at c k e f = rw e (ap Some (sym f))
 
-pub past_end : (code : List ℕ) (at : ℕ) → length code ≤ at → class_at code at ≡ None
+pub class_at-past_end : (code : List ℕ) (at : ℕ) → length code ≤ at → class_at code at ≡ None
 unfolding class_at
-past_end code at past = rw (slice_get_past code at past) refl
+class_at-past_end code at past = rw (slice_get_past code at past) refl
 
 -- a word stands at a place of the code alone
 pub kind_within : (code : List ℕ) (at : ℕ) (k : InsnKind) → kind_at code at ≡ Some k → at < length code
 kind_within code at k e =
     ⊎_elim
     (λ (p : at < length code). p)
-    (λ (p : length code ≤ at). let n = past_end code at p in absurd cc)
+    (λ (p : length code ≤ at). let n = class_at-past_end code at p in absurd cc)
     (cases_lt at (length code))
 
 unless_zero : (d : ℕ) → unwrap_or (but_zero (Some d)) 31 ≡ d

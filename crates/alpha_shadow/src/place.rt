@@ -46,7 +46,12 @@ pub(crate) fn broken_alone(at: u32, word: &Columns) -> Option<Broken>
         Condition::ZeroDestination,
         zero_destination(at, word),
     );
-    lesser_broken(found, at, Condition::SourceLost, source_lost_at_once(at, word))
+    lesser_broken(
+        found,
+        at,
+        Condition::SourceLost,
+        source_lost_at_once(at, word),
+    )
 }
 
 // The least broken place at a trigger, but for C9.

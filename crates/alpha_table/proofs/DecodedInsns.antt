@@ -333,8 +333,8 @@ Row-decoded w i h =
     (option_or_some _ _ i h)) (option_or_some _ _ i h)
 
 -- a word has one instruction at most
-pub same_insn : (w : ℕ) (i j : Form) → Row w i → Row w j → i ≡ j
-same_insn w i j h g = let e = decoded-Row w i h in let f = decoded-Row w j g in cc
+pub Row-deterministic : (w : ℕ) (i j : Form) → Row w i → Row w j → i ≡ j
+Row-deterministic w i j h g = let e = decoded-Row w i h in let f = decoded-Row w j g in cc
 
 pub decoded_none : (w : ℕ) → ((i : Form) → Row w i → ⊥) → decoded w ≡ None
 decoded_none w none = cases (decoded w) refl
@@ -344,9 +344,9 @@ decoded_none w none = cases (decoded w) refl
     cases (Some i) e = absurd (none i (Row-decoded w i e))
 
 -- what is the word's instruction, or nothing where it has none, is what is decoded
-pub decoded_is : (w : ℕ) (o : Option Form) → IfSome o (Row w) → IfNone o ((i : Form) → Row w i → ⊥) → o ≡ decoded w
-decoded_is w (Some i) row none = sym (decoded-Row w i row)
-decoded_is w None row none = sym (decoded_none w none)
+pub decoded-is_Row : (w : ℕ) (o : Option Form) → IfSome o (Row w) → IfNone o ((i : Form) → Row w i → ⊥) → o ≡ decoded w
+decoded-is_Row w (Some i) row none = sym (decoded-Row w i row)
+decoded-is_Row w None row none = sym (decoded_none w none)
 
 -- a number below the full range is known by the signed number of its digits
 same_signed : (half full f g : ℕ) → f < full → g < full
@@ -360,15 +360,15 @@ same_signed half full f g a b h = cases (ltb f half) (ltb g half) h
     cases false false h = omega (arith, ints)
 
 -- an instruction has one word
-pub Row-one_word : (v w : ℕ) (i : Form) → v < 2 ^ 32 → w < 2 ^ 32 → Row v i → Row w i → v ≡ w
-Row-one_word v w (Mem op ra rb disp) a b h g =
+pub Row-injective : (v w : ℕ) (i : Form) → v < 2 ^ 32 → w < 2 ^ 32 → Row v i → Row w i → v ≡ w
+Row-injective v w (Mem op ra rb disp) a b h g =
     let d = same_signed (2 ^ 15) (2 ^ 16) (field 15 0 v) (field 15 0 w) (omega arith) (omega arith) (h.3 ∙ sym g.3) in
     omega arith
-Row-one_word v w (Branch op ra disp) a b h g =
+Row-injective v w (Branch op ra disp) a b h g =
     let d = same_signed (2 ^ 20) (2 ^ 21) (field 20 0 v) (field 20 0 w) (omega arith) (omega arith) (h.2 ∙ sym g.2) in
     omega arith
-Row-one_word v w (Operate op ra (Reg rb) rc) a b h g = omega arith
-Row-one_word v w i a b h g = omega arith
+Row-injective v w (Operate op ra (Reg rb) rc) a b h g = omega arith
+Row-injective v w i a b h g = omega arith
 
 signed_range : (half full f : ℕ) → half + half ≡ full → f < full
     → (pos 0 ≤ℤ (cond (ltb f half) (pos f) (pos f -ℤ pos full) +ℤ pos half))
@@ -410,27 +410,27 @@ only_operate w e no_misc no_jump none (Fetch modify rb) h = no_misc h.0
 only_operate w e no_misc no_jump none (Pal call) h = omega arith
 
 -- each number of two bits is a kind
-pub kind_found : (n : ℕ) → n < 4 → n ≡ jump_kind (unwrap_or (jump_at n) jumps.Jmp)
-kind_found zero h = refl
-kind_found (suc zero) h = refl
-kind_found (suc (suc zero)) h = refl
-kind_found (suc (suc (suc zero))) h = refl
-kind_found (suc (suc (suc (suc n)))) h = absurd (omega arith)
+pub jump_kind-jump_at : (n : ℕ) → n < 4 → n ≡ jump_kind (unwrap_or (jump_at n) jumps.Jmp)
+jump_kind-jump_at zero h = refl
+jump_kind-jump_at (suc zero) h = refl
+jump_kind-jump_at (suc (suc zero)) h = refl
+jump_kind-jump_at (suc (suc (suc zero))) h = refl
+jump_kind-jump_at (suc (suc (suc (suc n)))) h = absurd (omega arith)
 
 -- what follows where there is nothing
-pub none_then : {A : Type 0} {P Q : Type 0} (o : Option A) → (P → Q) → IfNone o P → IfNone o Q
-none_then None f h = f h
-none_then (Some x) f h = tt
+pub IfNone-weaker : {A : Type 0} {P Q : Type 0} (o : Option A) → (P → Q) → IfNone o P → IfNone o Q
+IfNone-weaker None f h = f h
+IfNone-weaker (Some x) f h = tt
 
 -- an operate word whose operands its row refuses
 operate_of : (o f : ℕ) (op : Op) → o ≡ (op_row op).opcode → f ≡ (op_row op).function → operate_at o f ≡ Some op
 operate_of o f op a b = rw (a, b) ((operate_known op).0)
 
 -- an operate word whose operands its row refuses
-pub refused_operate : (w : ℕ) (op : Op) → is_at (field 31 26 w) (field 11 5 w) op ≡ true
+pub Row-operate_refused : (w : ℕ) (op : Op) → is_at (field 31 26 w) (field 11 5 w) op ≡ true
     → (SourceField w (source_in w) × OperandsFit (op_row op).operands (field 25 21 w) (source_in w) → ⊥) → (i : Form)
     → Row w i → ⊥
-refused_operate w op row refused =
+Row-operate_refused w op row refused =
     let e = and_parts ((op_row op).opcode == field 31 26 w) ((op_row op).function == field 11 5 w) row in
     let opcode : (op_row op).opcode ≡ field 31 26 w = eqb-true _ _ e.0 in
     let function : (op_row op).function ≡ field 11 5 w = eqb-true _ _ e.1 in
@@ -453,14 +453,15 @@ refused_operate w op row refused =
         )
 
 -- operands fit by what they are
-pub same_fit : (a b : OperandRule) (r n : ℕ) (x y : Src) → a ≡ b → r ≡ n → x ≡ y → OperandsFit a r x → OperandsFit b n y
-same_fit a b r n x y e f g h =
+pub OperandsFit-equal : (a b : OperandRule) (r n : ℕ) (x y : Src) → a ≡ b → r ≡ n → x ≡ y → OperandsFit a r x
+    → OperandsFit b n y
+OperandsFit-equal a b r n x y e f g h =
     subst (λ k. OperandsFit k n y) e (subst (λ m. OperandsFit a m y) f (subst (λ z. OperandsFit a r z) g h))
 
 -- an operate word with a second source, and operands that its row takes
-pub operate_stands : (w : ℕ) (op : Op) → is_at (field 31 26 w) (field 11 5 w) op ≡ true → SourceField w (source_in w)
+pub Decodes-operate : (w : ℕ) (op : Op) → is_at (field 31 26 w) (field 11 5 w) op ≡ true → SourceField w (source_in w)
     → OperandsFit (op_row op).operands (field 25 21 w) (source_in w) → Decodes (rows.Operate op) w
-operate_stands w op h src fit =
+Decodes-operate w op h src fit =
     let e = and_parts ((op_row op).opcode == field 31 26 w) ((op_row op).function == field 11 5 w) h in
     (refl, (sym (eqb-true _ _ e.0), sym (eqb-true _ _ e.1), refl, src, refl, fit))
 
@@ -492,19 +493,20 @@ is_told (rows.Ruled op) = false
 is_told rows.Other = false
 
 -- a row that opcode and function tell
-pub plain_stands : (w : ℕ) (row : InsnRow) → matches_row (field 31 26 w) (field 11 5 w) row ≡ true → is_told row ≡ true
+pub Decodes-matching_row : (w : ℕ) (row : InsnRow) → matches_row (field 31 26 w) (field 11 5 w) row ≡ true
+    → is_told row ≡ true
     → Decodes row w
-plain_stands w (rows.Mem op) h told = (refl, (sym (eqb-true _ _ h), refl, refl, refl))
-plain_stands w (rows.Branch op) h told = (refl, (sym (eqb-true _ _ h), refl, refl))
-plain_stands w rows.Jump h told =
-    let kind = kind_found (field 15 14 w) (omega arith) in
+Decodes-matching_row w (rows.Mem op) h told = (refl, (sym (eqb-true _ _ h), refl, refl, refl))
+Decodes-matching_row w (rows.Branch op) h told = (refl, (sym (eqb-true _ _ h), refl, refl))
+Decodes-matching_row w rows.Jump h told =
+    let kind = jump_kind-jump_at (field 15 14 w) (omega arith) in
     (refl, (eqb-true _ _ h, refl, refl, kind, refl))
-plain_stands w (rows.Misc op) h told = cc
-plain_stands w row h told = cc
+Decodes-matching_row w (rows.Misc op) h told = cc
+Decodes-matching_row w row h told = cc
 
 -- no word has the row of those that have none
-pub other_stands : (w : ℕ) (row : InsnRow) → Decodes row w → row ≡ rows.Other → (i : Form) → Row w i → ⊥
-other_stands w row h e i has =
+pub Decodes-other_none : (w : ℕ) (row : InsnRow) → Decodes row w → row ≡ rows.Other → (i : Form) → Row w i → ⊥
+Decodes-other_none w row h e i has =
     let same : form_row (form_in rows.Other w) ≡ rows.Other = (subst (λ k. Decodes k w) e h).0 in
     cc
 
@@ -517,9 +519,9 @@ none_found None x h e = cc
 none_found (Some y) x h e = cc
 
 -- a word that no row has, and whose opcode no format has
-pub no_row : (w : ℕ) → matches_row (field 31 26 w) (field 11 5 w) rows.Other ≡ true → field 31 26 w ≢ 0
+pub Row-no_format : (w : ℕ) → matches_row (field 31 26 w) (field 11 5 w) rows.Other ≡ true → field 31 26 w ≢ 0
     → field 31 26 w ≢ 0x18 → (i : Form) → Row w i → ⊥
-no_row w h pal misc i row = cases a.0 b.0 c.0 c.1 i row
+Row-no_format w h pal misc i row = cases a.0 b.0 c.0 c.1 i row
   where
     o : ℕ
     o = field 31 26 w

@@ -13,7 +13,7 @@ use Rattle.alpha_table.specs.Decoded.{jump_at}
 use Rattle.alpha_table.specs.Encoded.{encoded}
 use Rattle.alpha_table.specs.Insn.{form_in, form_row, Decodes, form_of, IsKnown}
 use Rattle.alpha_table.proofs.Lookups.{jump_known}
-use Rattle.alpha_table.proofs.DecodedInsns.{SourceField-source_in, Row-one_word, IsInsn-Row}
+use Rattle.alpha_table.proofs.DecodedInsns.{SourceField-source_in, Row-injective, IsInsn-Row}
 use Rattle.alpha_table.proofs.InsnWords.{encoded-Row}
 
 kind_at : (n : ℕ) (kind : JumpKind) → n ≡ jump_kind kind → unwrap_or (jump_at n) jumps.Jmp ≡ kind
@@ -40,12 +40,12 @@ pub IsKnown-decoded : (i : Inside) → i.word.0 < 2 ^ 32 → Decodes i.row i.wor
 IsKnown-decoded i small h =
     let e = encoded-Row (form_of i) (IsInsn-Row i.word.0 (form_of i) h.1) in
     let word : encoded (form_of i) ≡ i.word.0 =
-    Row-one_word (encoded (form_of i)) i.word.0 (form_of i) e.0 small e.1 h.1 in
+    Row-injective (encoded (form_of i)) i.word.0 (form_of i) e.0 small e.1 h.1 in
     (IsInsn-Row i.word.0 (form_of i) h.1, λ place. record { row = h.0 place; word = record { 0 = word place } })
 
 -- its word stands for it, by its row
-pub known-stands : (i : Inside) → IsKnown i → (Row i.word.0 (form_of i)) × Decodes i.row i.word.0
-known-stands i h =
+pub IsKnown-Row : (i : Inside) → IsKnown i → (Row i.word.0 (form_of i)) × Decodes i.row i.word.0
+IsKnown-Row i h =
     let row : Row i.word.0 (form_of i) =
     subst (λ w. Row w (form_of i)) (ap (λ (j : Inside). j.word.0) h.1) (encoded-Row (form_of i) h.0).1 in
     (row, (ap (λ (j : Inside). j.row) h.1, row))

@@ -70,5 +70,5 @@ encoded-Row (Pal call) h =
     let f = function-pal call in
     (omega arith, (omega arith, omega arith))
 
-pub some_word : (i : Form) → IsInsn i → (w : ℕ) × (w < 2 ^ 32) × Row w i
-some_word i h = let e = encoded-Row i h in (encoded i, e.0, e.1)
+pub Row-exists : (i : Form) → IsInsn i → (w : ℕ) × (w < 2 ^ 32) × Row w i
+Row-exists i h = let e = encoded-Row i h in (encoded i, e.0, e.1)

@@ -73,16 +73,16 @@ names-rise (m ∷ rows) h name (suc i) (suc j) d below inside =
     names-rise rows (tail_ascends m rows h) name i j d (omega arith) (omega arith)
 
 -- a row that isn't equal has another name
-pub other_name : (m : Mnemonic) (name : List ℕ) → names-order (name_of m) name ≢ Equal → name_of m ≢ name
-other_name m name apart same =
+pub name_of-not_equal : (m : Mnemonic) (name : List ℕ) → names-order (name_of m) name ≢ Equal → name_of m ≢ name
+name_of-not_equal m name apart same =
     apart (subst (λ n. names-order (name_of m) n ≡ Equal) same (tied_itself nat_list_cmp_total (name_of m)))
 
-pub not_named : (rows : List Mnemonic) (name : List ℕ) (i : ℕ)
+pub name_of-none_equal : (rows : List Mnemonic) (name : List ℕ) (i : ℕ)
     → IsPartitionPoint (λ m. names-order (name_of m) name ≡ Less) (λ m. names-order (name_of m) name ≡ Greater) rows i
     → All (λ m. name_of m ≢ name) rows
-not_named rows name i h k d inside =
-    ⊎_elim (λ (p : k < i). other_name _ name (λ e. let less = h.0 k d (omega arith) p in cc))
-    (λ (p : i ≤ k). other_name _ name (λ e. let more = h.1 k d p inside in cc)) (cases_lt k i)
+name_of-none_equal rows name i h k d inside =
+    ⊎_elim (λ (p : k < i). name_of-not_equal _ name (λ e. let less = h.0 k d (omega arith) p in cc))
+    (λ (p : i ≤ k). name_of-not_equal _ name (λ e. let more = h.1 k d p inside in cc)) (cases_lt k i)
 
 -- each row is found by its name
 found_row : (m : Mnemonic) → with_name (name_of m) ≡ Some m
@@ -95,8 +95,8 @@ found_row (Fetch modify) = (fetch_known modify).2
 found_row (Pal call) = (pal_known call).2
 
 -- no two rows have one name
-pub same_row : (m n : Mnemonic) → name_of m ≡ name_of n → m ≡ n
-same_row m n e = let a = found_row m in let b = found_row n in let c = ap with_name e in cc
+pub name_of-injective : (m n : Mnemonic) → name_of m ≡ name_of n → m ≡ n
+name_of-injective m n e = let a = found_row m in let b = found_row n in let c = ap with_name e in cc
 
 -- what holds of all holds of one that is found
 all_found : (P : Mnemonic → Type 0) (q : Mnemonic → Bool) (rows : List Mnemonic) (m : Mnemonic) → All P rows
@@ -110,10 +110,10 @@ all_found P q (x ∷ rows) m all found =
     cases false e later = later e
 
 -- a name that no list has is no instruction's
-pub no_name : (name : List ℕ) → let P : Mnemonic → Type 0 = λ m. name_of m ≢ name in
+pub name_of-in_no_list : (name : List ℕ) → let P : Mnemonic → Type 0 = λ m. name_of m ≢ name in
     All P OPERATES → All P MEMORIES → All P BRANCHES → All P JUMPS → All P MISCS → All P FETCHES → All P PAL_CALLS
     → (m : Mnemonic) → name_of m ≢ name
-no_name name a b c d e f g m =
+name_of-in_no_list name a b c d e f g m =
     let P : Mnemonic → Type 0 = λ m. name_of m ≢ name in
     let misc = FETCHES ++ PAL_CALLS in
     let jumps = MISCS ++ misc in

@@ -92,9 +92,9 @@ unfolding token_at
 number_at b s a d = rw (a, d) refl
 
 -- a digit begins no name, is no blank and no `#`
-pub digit_apart : (b : ℕ) → is_ascii_digit b ≡ true
+pub is_ascii_digit-begins_nothing : (b : ℕ) → is_ascii_digit b ≡ true
     → (begins_name b ≡ false) × (is_blank b ≡ false) × (b ≢ 35) × (eqb b 120 ≡ false)
-digit_apart b h = grind (arith, nat_tests)
+is_ascii_digit-begins_nothing b h = grind (arith, nat_tests)
 
 pub no_hex : (b : ℕ) (s : List ℕ) → BeginsWithout (λ c. eqb c 120) s → hex_len b s ≡ 0
 no_hex b [] stop = refl
@@ -113,7 +113,8 @@ digits-no_x : (ds s : List ℕ) → all_ascii_digits ds ≡ true → BeginsWitho
     → BeginsWithout (λ c. eqb c 120) (ds ++ s)
 digits-no_x [] [] h stop = tt
 digits-no_x [] (b ∷ s) h stop = (alphanumeric_apart b stop).1
-digits-no_x (d ∷ ds) s h stop = (digit_apart d (and_parts (is_ascii_digit d) (all_ascii_digits ds) h).0).3
+digits-no_x (d ∷ ds) s h stop =
+    (is_ascii_digit-begins_nothing d (and_parts (is_ascii_digit d) (all_ascii_digits ds) h).0).3
 
 more_digits : (b : ℕ) (ds s : List ℕ) → all_ascii_digits ds ≡ true → BeginsWithout is_ascii_alphanumeric s
     → number_more b (ds ++ s) ≡ length ds
@@ -126,7 +127,7 @@ token-digits : (ds s : List ℕ) → all_ascii_digits ds ≡ true → 0 < length
 token-digits [] s h inside stop = absurd (omega arith)
 token-digits (b ∷ ds) s h inside stop =
     let (a, rest) = and_parts (is_ascii_digit b) (all_ascii_digits ds) h in
-    let (no_name, plain, apart, other) = digit_apart b a in
+    let (no_name, plain, apart, other) = is_ascii_digit-begins_nothing b a in
     token-next b ds s kinds.Number plain apart
     (number_at b (ds ++ s) no_name a ∙ ap (λ n. Some (kinds.Number, n)) (more_digits b ds s rest stop))
 
@@ -134,15 +135,15 @@ pub token-num : (n : ℕ) (s : List ℕ) → n < 2 ^ 64 → BeginsWithout is_asc
     → tokens (decimal n ++ s) ≡ Next (record { kind = kinds.Number; text = decimal n; rest = s }) (tokens s)
 token-num n s h stop = token-digits (decimal n) s (decimal-digits n h) (decimal_nonempty n h) stop
 
-pub append_none : (ds : List ℕ) → ds ++ [] ≡ ds
-append_none [] = refl
-append_none (d ∷ ds) = ap (λ t. d ∷ t) (append_none ds)
+pub append-nil_right : (ds : List ℕ) → ds ++ [] ≡ ds
+append-nil_right [] = refl
+append-nil_right (d ∷ ds) = ap (λ t. d ∷ t) (append-nil_right ds)
 
 value_digits : (ds : List ℕ) → all_ascii_digits ds ≡ true → 0 < length ds → number_value ds ≡ digits_value 10 ds
 value_digits [] h inside = absurd (omega arith)
 value_digits (b ∷ ds) h inside =
     let (a, rest) = and_parts (is_ascii_digit b) (all_ascii_digits ds) h in
-    let none : hex_len b ds ≡ 0 = no_hex b ds (rw (append_none ds) at (digits-no_x ds [] rest tt)) in
+    let none : hex_len b ds ≡ 0 = no_hex b ds (rw (append-nil_right ds) at (digits-no_x ds [] rest tt)) in
     rw none refl
 
 pub number_value-decimal : (n : ℕ) → n < 2 ^ 64 → number_value (decimal n) ≡ n
@@ -155,8 +156,9 @@ abbrev pub is_word : List ℕ → Bool
 is_word [] = false
 is_word (b ∷ ds) = is_ascii_alphabetic b && list_all goes_on_name ds
 
-pub letter_apart : (b : ℕ) → is_ascii_alphabetic b ≡ true → (begins_name b ≡ true) × (eqb b 46 ≡ false)
-letter_apart b h = (rw h refl, grind (arith, nat_tests))
+pub is_ascii_alphabetic-begins_name : (b : ℕ) → is_ascii_alphabetic b ≡ true
+    → (begins_name b ≡ true) × (eqb b 46 ≡ false)
+is_ascii_alphabetic-begins_name b h = (rw h refl, grind (arith, nat_tests))
 
 not-true : (b : Bool) → not b ≡ true → b ≡ false
 not-true true h = cc

@@ -18,7 +18,8 @@ use Rattle.alpha_token.specs.declared.token.TokenKind.TheVariants as kinds
 use Rattle.alpha_token.specs.Bytes.{is_blank, is_label}
 use Rattle.alpha_token.specs.Numeral.{number_value}
 use Rattle.alpha_token.specs.Tokens.{Lexeme, Tokens, End, Bad, Next, left_of, tokens}
-use Rattle.alpha_token.proofs.CarriageReturns.{with_return, prefix-return, lexeme-with_return, Returned, tokens-with_return}
+use Rattle.alpha_token.proofs.CarriageReturns.{with_return, prefix-return, lexeme-with_return, Returned}
+use Rattle.alpha_token.proofs.CarriageReturns.{tokens-with_return}
 use Rattle.alpha_operands.specs.declared.number.Number.{Number}
 use Rattle.alpha_operands.specs.declared.number.Number.TheVariants as numbers
 use Rattle.alpha_operands.specs.declared.number.Sign.{Sign}
@@ -42,7 +43,8 @@ use Rattle.alpha_text.specs.declared.head.Head.TheVariants as heads
 use Rattle.alpha_text.specs.Heads.{head_of, shape_of}
 use Rattle.alpha_text.specs.Statements.{Stmt, code, memory_stmt, branch_stmt, operate_form, insn_stmt, move_form}
 use Rattle.alpha_text.specs.Statements.{pseudo_form, entry_stmt, directive_stmt, pseudo_op_stmt, stmt_by}
-use Rattle.alpha_text.specs.Reading.{LineStmt, list_in, with_operands, with_head, statement_from, statement_of, is_labelled}
+use Rattle.alpha_text.specs.Reading.{LineStmt, list_in, with_operands, with_head, statement_from, statement_of}
+use Rattle.alpha_text.specs.Reading.{is_labelled}
 use Rattle.alpha_text.specs.Reading.{labelled, line_after_label, line_of, located, read}
 
 -- slots that differ in what is left of the line alone

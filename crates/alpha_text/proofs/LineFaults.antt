@@ -16,8 +16,10 @@ use Rattle.alpha_operands.specs.Grammar.{HasFault, NoLater, fault_at}
 use Rattle.alpha_operands.proofs.Grammar.{same_kind-is, same_kind-same}
 use Rattle.alpha_operands.proofs.PatternsApart.{shapes-distinct}
 use Rattle.alpha_token.proofs.TokenOrder.{AreInOrder, tokens-fall}
-use Rattle.alpha_operands.proofs.OperandFaults.{among-left, has-left, among-has, fault-stuck, at_one, fault-further}
-use Rattle.alpha_operands.proofs.OperandFaults.{stuck_most, stuck_unknown, follow-has, follow-first, operands-clean}
+use Rattle.alpha_operands.proofs.OperandFaults.{among-left, has-left, among-has, fault-stuck, NoLater-same_column}
+use Rattle.alpha_operands.proofs.OperandFaults.{NoLater-further_column}
+use Rattle.alpha_operands.proofs.OperandFaults.{stuck_most, stuck_unknown, follow-has, follow-first}
+use Rattle.alpha_operands.proofs.OperandFaults.{AreOperands-no_fault}
 use Rattle.alpha_text.specs.declared.head.Head.{Head}
 use Rattle.alpha_text.specs.declared.reader.LineFault.{LineFault}
 use Rattle.alpha_text.specs.Heads.{head_of, shape_of}
@@ -86,13 +88,13 @@ statement-has (Next t ts) f h =
 behind_first : (t : Lexeme) (ts : Tokens) (kind : LineFaultKind) (f g : OperandFault) → 0 < length t.text
     → f ≡ fault_at (left_of t) kind → g.left ≤ length t.rest → NoLater f g
 behind_first t ts kind f g inside e l =
-    fault-further (left_of t) kind f g e (let m : g.left < left_of t = omega arith in m)
+    NoLater-further_column (left_of t) kind f g e (let m : g.left < left_of t = omega arith in m)
 
 statement-first : (n : ℕ) (ts : Tokens) (f g : OperandFault) → AreInOrder n ts → statement_of ts ≡ Err f
     → StatementFault ts g → NoLater f g
 statement-first n (End left) f g fall h has = absurd has
 statement-first n (Bad left) f g fall h e =
-    let same : f ≡ fault_at left BadToken = cc in at_one left BadToken BadToken f g same e (omega arith)
+    let same : f ≡ fault_at left BadToken = cc in NoLater-same_column left BadToken BadToken f g same e (omega arith)
 statement-first n (Next t ts) f g (a, inside, c) h has =
     elim (name_failed t ts (same_kind t.kind kinds.Name) (fault_at (left_of t) (stuck_at t)) f h) [
       | inl (b, k) ↦ let name = same_kind-is t.kind kinds.Name b in
@@ -105,7 +107,7 @@ statement-first n (Next t ts) f g (a, inside, c) h has =
               | inr r ↦ elim r [
                 | inl (not_name, x) ↦ absurd (not_name name)
                 | inr r ↦ elim r [
-                  | inl (y, z, x) ↦ at_one (left_of t) UnknownName UnknownName f g e x (omega arith)
+                  | inl (y, z, x) ↦ NoLater-same_column (left_of t) UnknownName UnknownName f g e x (omega arith)
                   | inr (y, head, found, x) ↦ behind_first t ts UnknownName f g inside e
                       (has-left (length t.rest) (patterns (shape_of head)) [] signs.Plus ts g c x)
                 ]
@@ -131,11 +133,11 @@ statement-first n (Next t ts) f g (a, inside, c) h has =
           ]
       | inr (b, e) ↦ elim has [
         | inl m ↦ elim m [
-          | inl (u, x) ↦ at_one (left_of t) (stuck_at t) UnknownName f g e x (stuck_unknown t u)
+          | inl (u, x) ↦ NoLater-same_column (left_of t) (stuck_at t) UnknownName f g e x (stuck_unknown t u)
           | inr m ↦ behind_first t ts (stuck_at t) f g inside e (among-left (length t.rest) ts g c m)
         ]
         | inr r ↦ elim r [
-          | inl (not_name, x) ↦ at_one (left_of t) (stuck_at t) BadOperands f g e x (stuck_most t)
+          | inl (not_name, x) ↦ NoLater-same_column (left_of t) (stuck_at t) BadOperands f g e x (stuck_most t)
           | inr r ↦ elim r [ inl (y, z, x) ↦ absurd (no_name t b y) | inr (y, head, found, x) ↦ absurd (no_name t b y) ]
         ]
       ]
@@ -218,7 +220,7 @@ line-first n (Next t ts) f g (a, inside, c) h has =
             ]
             | inr (bad, e) ↦ elim has [
               | inl (y, z) ↦ elim z [
-                | inl (w, k2) ↦ at_one (left_of t) BadOperands BadOperands f g e k2 (omega arith)
+                | inl (w, k2) ↦ NoLater-same_column (left_of t) BadOperands BadOperands f g e k2 (omega arith)
                 | inr z ↦ behind_first t ts BadOperands f g inside e
                     (let l : g.left ≤ length (drop 1 t.rest) =
                     statement-left (length (drop 1 t.rest)) (tokens (drop 1 t.rest)) g
@@ -255,7 +257,7 @@ statement-clean (End left) s g is has = has
 statement-clean (Bad left) s g is has = is
 statement-clean (Next t ts) s g (name, head, found, o, are, e) has =
     let clean : HasFault (patterns (shape_of head)) [] signs.Plus ts g → ⊥ =
-    operands-clean (patterns (shape_of head)) (shapes-distinct (shape_of head)) ts o g are in
+    AreOperands-no_fault (patterns (shape_of head)) (shapes-distinct (shape_of head)) ts o g are in
     elim has [
       | inl m ↦ elim m [
         | inl (u, x) ↦ name_known t name u
@@ -279,8 +281,8 @@ label-clean (Bad left) l g is has = is
 label-clean (Next t ts) l g (good, label, is) (inl (bad, e)) = let no_label : true ≡ false = sym good ∙ bad in cc
 label-clean (Next t ts) l g (good, label, is) (inr has) = statement-clean (tokens (drop 1 t.rest)) l.statement g is has
 
-pub line-clean : (ts : Tokens) (l : LineStmt) (g : OperandFault) → IsLine ts l → LineHasFault ts g → ⊥
-line-clean ts l g (inl (labelled, is)) (inl (x, has)) = label-clean ts l g is has
-line-clean ts l g (inl (labelled, is)) (inr (none, has)) = none labelled
-line-clean ts l g (inr (none, label, is)) (inl (labelled, has)) = none labelled
-line-clean ts l g (inr (none, label, is)) (inr (x, has)) = statement-clean ts l.statement g is has
+pub IsLine-no_fault : (ts : Tokens) (l : LineStmt) (g : OperandFault) → IsLine ts l → LineHasFault ts g → ⊥
+IsLine-no_fault ts l g (inl (labelled, is)) (inl (x, has)) = label-clean ts l g is has
+IsLine-no_fault ts l g (inl (labelled, is)) (inr (none, has)) = none labelled
+IsLine-no_fault ts l g (inr (none, label, is)) (inl (labelled, has)) = none labelled
+IsLine-no_fault ts l g (inr (none, label, is)) (inr (x, has)) = statement-clean ts l.statement g is has

@@ -80,21 +80,21 @@ each_short : list_all (λ m. nat_le (length (name_of m)) 13) every_mnemonic ≡ 
 unfolding every_mnemonic
 each_short = refl
 
-pub found-all : {A : Type 0} (test each : A → Bool) (xs : List A) (x : A) → list_all each xs ≡ true
+pub find-list_all : {A : Type 0} (test each : A → Bool) (xs : List A) (x : A) → list_all each xs ≡ true
     → find test xs ≡ Some x → each x ≡ true
-found-all test each [] x h e = cc
-found-all test each (y ∷ xs) x h e =
+find-list_all test each [] x h e = cc
+find-list_all test each (y ∷ xs) x h e =
     let (a, b) = and_parts (each y) (list_all each xs) h in
     let either : (v : Bool) → cond v (Some y) (find test xs) ≡ Some x → each x ≡ true =
     λ v. elim v as (λ w. cond w (Some y) (find test xs) ≡ Some x → each x ≡ true) [
       | true ↦ λ k. let same : y ≡ x = cc in ap each (sym same) ∙ a
-      | false ↦ λ k. found-all test each xs x b k
+      | false ↦ λ k. find-list_all test each xs x b k
     ] in
     either (test y) e
 
 pub name_of-short : (m : Mnemonic) → length (name_of m) ≤ 13
 name_of-short m =
-    let h : nat_le (length (name_of m)) 13 ≡ true = found-all (λ n. bytes_eq (name_of n) (name_of m))
+    let h : nat_le (length (name_of m)) 13 ≡ true = find-list_all (λ n. bytes_eq (name_of n) (name_of m))
     (λ n. nat_le (length (name_of n)) 13) every_mnemonic m each_short (mnemonic_at-name m) in
     grind (arith, nat_tests, h)
 
@@ -104,7 +104,7 @@ each_word = refl
 
 pub name_of-word : (m : Mnemonic) → is_word (name_of m) ≡ true
 name_of-word m =
-    found-all (λ n. bytes_eq (name_of n) (name_of m)) (λ n. is_word (name_of n)) every_mnemonic m each_word
+    find-list_all (λ n. bytes_eq (name_of n) (name_of m)) (λ n. is_word (name_of n)) every_mnemonic m each_word
     (mnemonic_at-name m)
 
 pseudo_op_at-name : (pseudo_op : PseudoOp) → head_of (pseudo_op_name pseudo_op) ≡ Some (heads.PseudoOp pseudo_op)

@@ -32,9 +32,9 @@ use Rattle.alpha_operands.specs.Values.{first_operands, value_in, value_of, firs
 use Rattle.alpha_operands.specs.Walk.{is_whole, piece_behind, front_after, sign_after, follow}
 use Rattle.alpha_operands.specs.Grammar.{AreOperands}
 use Rattle.alpha_operands.proofs.PatternsApart.{shapes-distinct}
-use Rattle.alpha_operands.proofs.SlotChanges.{a_value, a_label, a_given}
+use Rattle.alpha_operands.proofs.SlotChanges.{a_value, cond-ok, ok-injective}
 use Rattle.alpha_operands.proofs.ListValueSizes.{value-sized}
-use Rattle.alpha_operands.proofs.Grammar.{at_end, grammar-took, grammar-went, spells-follow}
+use Rattle.alpha_operands.proofs.Grammar.{cond-ok_or_fault, grammar-took, grammar-went, spells-follow}
 use Rattle.alpha_text.specs.declared.head.PseudoOp.TheVariants as owns
 use Rattle.alpha_text.specs.declared.head.Head.{Head}
 use Rattle.alpha_text.specs.declared.head.Head.TheVariants as heads
@@ -89,20 +89,20 @@ filled-refers n pieces.Operator t sign o r size good h =
     let (v, e, k) = a_value (operator_of t.text) UnknownName _ r h in
     rw (← k) good
 filled-refers n pieces.Label t sign o r size good h =
-    let (b, k) = a_label (is_label t.text) _ r h in
+    let (b, k) = cond-ok (is_label t.text) _ r h in
     rw (← k) ((b, size), good.1)
 filled-refers n pieces.Offset t sign o r size good h =
     let (v, e, k) = a_value (offset_of sign (number_value t.text)) OutOfRange _ r h in
     rw (← k) (good.0, offset_well sign (number_value t.text) v e)
-filled-refers n pieces.Text t sign o r size good h = rw (← a_given _ r h) good
-filled-refers n pieces.Comma t sign o r size good h = rw (← a_given _ r h) good
-filled-refers n pieces.Again t sign o r size good h = rw (← a_given _ r h) good
-filled-refers n pieces.Open t sign o r size good h = rw (← a_given _ r h) good
-filled-refers n pieces.Close t sign o r size good h = rw (← a_given _ r h) good
-filled-refers n pieces.Minus t sign o r size good h = rw (← a_given _ r h) good
-filled-refers n pieces.Plus t sign o r size good h = rw (← a_given _ r h) good
-filled-refers n pieces.Less t sign o r size good h = rw (← a_given _ r h) good
-filled-refers n pieces.Dot t sign o r size good h = rw (← a_given _ r h) good
+filled-refers n pieces.Text t sign o r size good h = rw (← ok-injective _ r h) good
+filled-refers n pieces.Comma t sign o r size good h = rw (← ok-injective _ r h) good
+filled-refers n pieces.Again t sign o r size good h = rw (← ok-injective _ r h) good
+filled-refers n pieces.Open t sign o r size good h = rw (← ok-injective _ r h) good
+filled-refers n pieces.Close t sign o r size good h = rw (← ok-injective _ r h) good
+filled-refers n pieces.Minus t sign o r size good h = rw (← ok-injective _ r h) good
+filled-refers n pieces.Plus t sign o r size good h = rw (← ok-injective _ r h) good
+filled-refers n pieces.Less t sign o r size good h = rw (← ok-injective _ r h) good
+filled-refers n pieces.Dot t sign o r size good h = rw (← ok-injective _ r h) good
 filled-refers n p t sign o r size good h =
     let (v, e, k) = a_value (number_of p sign (number_value t.text)) OutOfRange _ r h in
     rw (← k) good
@@ -110,7 +110,7 @@ filled-refers n p t sign o r size good h =
 follow-refers : (n m : ℕ) (all : List Pattern) (front : Pattern) (sign : Sign) (ts : Tokens) (o r : Slots) → m ≤ n
     → AreInOrder m ts → Refers n o → follow all front sign ts o ≡ Ok r → Refers n r
 follow-refers n m all front sign (End left) o r low falls good h =
-    rw (← (at_end (is_whole all front) o r left h).1) good
+    rw (← (cond-ok_or_fault (is_whole all front) o r left h).1) good
 follow-refers n m all front sign (Bad left) o r low falls good h = cc
 follow-refers n m all front sign (Next t ts) o r low (left, some, behind) good h =
     let size : length t.text ≤ n = omega arith in

@@ -42,7 +42,7 @@ use Rattle.alpha_text.proofs.FormatOperands.{call_forward, call_itself, call_bac
 use Rattle.alpha_text.proofs.FormatOperands.{operate_register}
 use Rattle.alpha_text.proofs.FormatOperands.{operate_literal, unary_register, unary_literal, pair_words, single_word}
 use Rattle.alpha_text.proofs.FormatOperands.{prefetch_words, alone_words}
-use Rattle.alpha_text.proofs.CanonicalTokens.{is_word, letter_apart, token-named}
+use Rattle.alpha_text.proofs.CanonicalTokens.{is_word, is_ascii_alphabetic-begins_name, token-named}
 
 -- a name of the tables begins a name, goes on as one, and isn't `.` alone
 abbrev is_named : List ℕ → Bool
@@ -53,7 +53,7 @@ word_named : (name : List ℕ) → is_word name ≡ true → is_named name ≡ t
 word_named [] h = cc
 word_named (b ∷ ds) h =
     let (a, rest) = and_parts (is_ascii_alphabetic b) (list_all goes_on_name ds) h in
-    let (begins, dot) = letter_apart b a in
+    let (begins, dot) = is_ascii_alphabetic-begins_name b a in
     rw (begins, rest, dot) refl
 
 own_named : (pseudo_op : PseudoOp) → is_named (pseudo_op_name pseudo_op) ≡ true

@@ -8,7 +8,7 @@ ghost use Rattle.alpha_operands.specs.Operands.{slots};
 ghost use Rattle.alpha_text.specs.Statements.{call_in, move_number, move_form, of_zero, operation_of, pseudo_form};
 
 use crate::head::PseudoOp;
-use crate::instruction::{insn, reg_of_number, of_zero, reg};
+use crate::instruction::{insn, of_zero, reg, reg_of_number};
 use alpha_operands::{Number, Operands};
 use alpha_table::{Form, Insn, MemOp, Op, Src};
 use alpha_words::{PalCall, Reg};

@@ -18,10 +18,10 @@ use Rattle.alpha_token.specs.Tokens.{Lexeme, Tokens, End, Bad, Next, mark, token
 use Rattle.alpha_token.proofs.ConditionalChoices.{cond-either, choose_both}
 use Rattle.alpha_token.proofs.StringLengths.{option_map-some, quoted_len-skip}
 
-pub text-given : {A B : Type 0} (f : A → Option B) (o : Option A) (y : B) → option_and_then f o ≡ Some y
+pub option_and_then-some : {A B : Type 0} (f : A → Option B) (o : Option A) (y : B) → option_and_then f o ≡ Some y
     → (x : A) × (o ≡ Some x) × (f x ≡ Some y)
-text-given f None y e = cc
-text-given f (Some x) y e = (x, refl, e)
+option_and_then-some f None y e = cc
+option_and_then-some f (Some x) y e = (x, refl, e)
 
 hex_pair-size : (s : List ℕ) (v : ℕ × ℕ) → hex_pair s ≡ Some v → v.1 ≡ 3
 hex_pair-size [] v h = cc
@@ -66,7 +66,7 @@ pub quoted_len-open : (b : ℕ) (s : List ℕ) (n : ℕ) → eqb b 34 ≡ false 
     (v : ℕ × ℕ) × (byte_at (b ∷ s) ≡ Some v) × ((m : ℕ) × (quoted_len v.1 s ≡ Some m) × (suc m ≡ n))
 quoted_len-open b s n plain h =
     let k : option_and_then (λ v. option_map suc (quoted_len v.1 s)) (byte_at (b ∷ s)) ≡ Some n = rw plain at h in
-    let (v, at, e) = text-given (λ (v : ℕ × ℕ). option_map suc (quoted_len v.1 s)) (byte_at (b ∷ s)) n k in
+    let (v, at, e) = option_and_then-some (λ (v : ℕ × ℕ). option_map suc (quoted_len v.1 s)) (byte_at (b ∷ s)) n k in
     let (m, f, same) = option_map-some suc (quoted_len v.1 s) n e in
     (v, at, (m, f, same))
 
@@ -149,19 +149,20 @@ first-none text b rest e h =
     let none : (let x : Option (ℕ × List ℕ) = None in x) ≡ Some (b, rest) = sym (ap first_byte e) ∙ h in
     cc
 
-pub one-text : (text bs cs : List ℕ) → IsTextOf text bs → IsTextOf text cs → bs ≡ cs
-one-text text [] [] h k = refl
-one-text text [] (c ∷ cs) h (rest, k, m) = absurd (first-none text c rest h k)
-one-text text (b ∷ bs) [] (rest, h, m) k = absurd (first-none text b rest k h)
-one-text text (b ∷ bs) (c ∷ cs) (rest, h, m) (other, k, n) =
+pub IsTextOf-unique : (text bs cs : List ℕ) → IsTextOf text bs → IsTextOf text cs → bs ≡ cs
+IsTextOf-unique text [] [] h k = refl
+IsTextOf-unique text [] (c ∷ cs) h (rest, k, m) = absurd (first-none text c rest h k)
+IsTextOf-unique text (b ∷ bs) [] (rest, h, m) k = absurd (first-none text b rest k h)
+IsTextOf-unique text (b ∷ bs) (c ∷ cs) (rest, h, m) (other, k, n) =
     let e : (let x : ℕ × List ℕ = (b, rest) in x) ≡ (c, other) =
     (let same : (let x : Option (ℕ × List ℕ) = Some (b, rest) in x) ≡ Some (c, other) = sym h ∙ k in cc) in
     let head : b ≡ c = ap (λ (x : ℕ × List ℕ). x.0) e in
     let behind : rest ≡ other = ap (λ (x : ℕ × List ℕ). x.1) e in
-    cc (head, one-text rest bs cs m (rw behind n))
+    cc (head, IsTextOf-unique rest bs cs m (rw behind n))
 
 -- behind the text stands the closing quote
-quoted_len-closing_quote : (skip : ℕ) (s : List ℕ) (n : ℕ) → quoted_len skip s ≡ Some n → (rest : List ℕ) × (drop n s ≡ 34 ∷ rest)
+quoted_len-closing_quote : (skip : ℕ) (s : List ℕ) (n : ℕ) → quoted_len skip s ≡ Some n
+    → (rest : List ℕ) × (drop n s ≡ 34 ∷ rest)
 quoted_len-closing_quote skip [] n h = cc
 quoted_len-closing_quote (suc skip) (b ∷ s) n h =
     let (m, e, same) = option_map-some suc (quoted_len skip s) n h in
@@ -173,7 +174,8 @@ quoted_len-closing_quote zero (b ∷ s) n h =
           let z : 0 ≡ n = cc in
           let q : b ≡ 34 = grind (arith, nat_tests) in
           (s, rw (← z, q) refl)
-      | false ↦ λ e. let (v, at, (m, f, same)) = quoted_len-open b s n e h in rw (← same) (quoted_len-closing_quote v.1 s m f)
+      | false ↦ λ e. let (v, at, (m, f, same)) = quoted_len-open b s n e h in
+          rw (← same) (quoted_len-closing_quote v.1 s m f)
     ] in
     either (eqb b 34) refl
 

@@ -19,7 +19,9 @@ const LOOP: [u32; 5] = [
 fn rows_are_made_behind_sixty_four_steps_a_word(rt: HostRuntime) -> Result<(), Fail> {
     let alloc = rt.alloc();
     let image = sample(alloc, &LOOP, 0).ok().ok_or("image")?;
-    let machine = Machine::new(alloc, image, Completion::Wrap).ok().ok_or("memory")?;
+    let machine = Machine::new(alloc, image, Completion::Wrap)
+        .ok()
+        .ok_or("memory")?;
     let mut by_rows = RowMachine::new(alloc, machine);
     let by_words = by_rows.run_fast(1_000);
     let none = by_rows.run_fast(1_000 - by_words);

@@ -48,9 +48,10 @@ kind_runs_on kinds.Store b t = refl
 kind_runs_on kinds.Locked b t = refl
 kind_runs_on kinds.Turn b t = absurd (t refl)
 
-pub on_straight : (c : Option Class) → kind c ≢ Some kinds.Barrier → kind c ≢ Some kinds.Turn → is_straight c ≡ true
-on_straight None b t = refl
-on_straight (Some c) b t = kind_runs_on (class_kind c) b t
+pub kind-is_straight : (c : Option Class) → kind c ≢ Some kinds.Barrier → kind c ≢ Some kinds.Turn
+    → is_straight c ≡ true
+kind-is_straight None b t = refl
+kind-is_straight (Some c) b t = kind_runs_on (class_kind c) b t
 
 -- the destination that a trigger may spoil
 

@@ -17,35 +17,35 @@ list_all-range p from (suc n) k e low high =
     (λ (apart : k ≡ from → ⊥). list_all-range p (from + 1) n k q.1 (omega arith) (omega arith))
     (cases_eq k from)
 
-pub within_all : (p : ℕ → Bool) (from n : ℕ) → ((k : ℕ) → from ≤ k → k < from + n → p k ≡ true)
+pub list_all-of_range : (p : ℕ → Bool) (from n : ℕ) → ((k : ℕ) → from ≤ k → k < from + n → p k ≡ true)
     → list_all p (range_with_len from n) ≡ true
-within_all p from zero h = refl
-within_all p from (suc n) h =
+list_all-of_range p from zero h = refl
+list_all-of_range p from (suc n) h =
     and_from (p from) (list_all p (range_with_len (from + 1) n)) (h from (omega arith) (omega arith))
-    (within_all p (from + 1) n (λ k low high. h k (omega arith) (omega arith)))
+    (list_all-of_range p (from + 1) n (λ k low high. h k (omega arith) (omega arith)))
 
 -- some number of a range passes a test
 
-pub any_within : (p : ℕ → Bool) (from n : ℕ) → list_any p (range_with_len from n) ≡ true
+pub list_any-range : (p : ℕ → Bool) (from n : ℕ) → list_any p (range_with_len from n) ≡ true
     → (k : ℕ) × (from ≤ k) × (k < from + n) × (p k ≡ true)
-any_within p from zero e = cc
-any_within p from (suc n) e =
+list_any-range p from zero e = cc
+list_any-range p from (suc n) e =
     ⊎_elim
     (λ (q : p from ≡ true). (from, omega arith, omega arith, q))
-    (λ (q : list_any p (range_with_len (from + 1) n) ≡ true). let w = any_within p (from + 1) n q in
+    (λ (q : list_any p (range_with_len (from + 1) n) ≡ true). let w = list_any-range p (from + 1) n q in
     let low : from + 1 ≤ w.0 = w.1 in
     let high : w.0 < from + 1 + n = w.2 in
     (w.0, omega arith, omega arith, w.3))
     (or_cases (p from) (list_any p (range_with_len (from + 1) n)) e)
 
-pub within_any : (p : ℕ → Bool) (from n k : ℕ) → from ≤ k → k < from + n → p k ≡ true
+pub list_any-of_range : (p : ℕ → Bool) (from n k : ℕ) → from ≤ k → k < from + n → p k ≡ true
     → list_any p (range_with_len from n) ≡ true
-within_any p from zero k low high e = absurd (omega arith)
-within_any p from (suc n) k low high e =
+list_any-of_range p from zero k low high e = absurd (omega arith)
+list_any-of_range p from (suc n) k low high e =
     ⊎_elim
     (λ (same : k ≡ from). or_left (p from) (list_any p (range_with_len (from + 1) n)) (subst (λ j. p j ≡ true) same e))
     (λ (apart : k ≡ from → ⊥). or_right (p from) (list_any p (range_with_len (from + 1) n))
-    (within_any p (from + 1) n k (omega arith) (omega arith) e))
+    (list_any-of_range p (from + 1) n k (omega arith) (omega arith) e))
     (cases_eq k from)
 
 -- the greatest number below a limit that passes a test

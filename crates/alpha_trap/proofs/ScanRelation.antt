@@ -11,9 +11,10 @@ use Rattle.alpha_table.specs.Code.{class_at, trap_rc, Straight}
 use Rattle.alpha_image.specs.Parts.{Parts}
 use Rattle.alpha_trap.specs.Scan.{is_straight, is_destination, fits, greatest_below, place_or_end, scan_at, scan}
 use Rattle.alpha_trap.specs.Finds.{Covers, Fits, Finds}
-use Rattle.alpha_trap.proofs.GreatestInRange.{list_all-range, within_all, any_within, within_any, greatest_below-some}
+use Rattle.alpha_trap.proofs.GreatestInRange.{list_all-range, list_all-of_range, list_any-range, list_any-of_range}
+use Rattle.alpha_trap.proofs.GreatestInRange.{greatest_below-some}
 use Rattle.alpha_trap.proofs.GreatestInRange.{greatest_below-is}
-use Rattle.alpha_trap.proofs.ClassTests.{trigger_has_rc, has_rc_trigger, is_straight-kind, on_straight}
+use Rattle.alpha_trap.proofs.ClassTests.{trigger_has_rc, has_rc_trigger, is_straight-kind, kind-is_straight}
 use Rattle.alpha_trap.proofs.ClassTests.{is_destination-trap_rc, trap_rc-is_destination}
 
 -- ---- the parts of the test
@@ -36,8 +37,8 @@ straight_is code at to n e t = λ k low high.
 is_straight_between : (code : List ℕ) (at to n : ℕ) → at + n ≡ to → Straight code at to
     → straight_between code at n ≡ true
 unfolding straight_between
-is_straight_between code at to n e s = within_all (λ j. is_straight (class_at code j)) at n (λ k low high.
-    let q = s k low (omega arith) in on_straight (class_at code k) q.0 q.1)
+is_straight_between code at to n e s = list_all-of_range (λ j. is_straight (class_at code j)) at n (λ k low high.
+    let q = s k low (omega arith) in kind-is_straight (class_at code k) q.0 q.1)
 
 covers_is : (code : List ℕ) (mask at to n : ℕ) → at + n ≡ to → covers_between code mask at n ≡ true
     → Covers code mask at to
@@ -45,7 +46,7 @@ unfolding covers_between is_destination_between
 covers_is code mask at to n e t = λ r small has. ⊎_elim
     (λ (none : (bit_at mask r == 0) ≡ true). let zero_bit = eqb-true (bit_at mask r) 0 none in absurd (omega arith))
     (λ (some : list_any (λ k. is_destination (class_at code k) r) (range_with_len at n) ≡ true).
-    let w = any_within (λ k. is_destination (class_at code k) r) at n some in
+    let w = list_any-range (λ k. is_destination (class_at code k) r) at n some in
     let high : w.0 < at + n = w.2 in
     (w.0, w.1, omega arith, is_destination-trap_rc (class_at code w.0) r w.3))
     (or_cases (bit_at mask r == 0) (list_any (λ k. is_destination (class_at code k) r) (range_with_len at n))
@@ -57,7 +58,8 @@ is_covers_between : (code : List ℕ) (mask at to n : ℕ) → at + n ≡ to →
     → covers_between code mask at n ≡ true
 unfolding covers_between is_destination_between
 is_covers_between code mask at to n e c =
-    within_all (λ j. bit_at mask j == 0 || list_any (λ k. is_destination (class_at code k) j) (range_with_len at n)) 0
+    list_all-of_range
+    (λ j. bit_at mask j == 0 || list_any (λ k. is_destination (class_at code k) j) (range_with_len at n)) 0
     31
     (λ r low high. ⊎_elim
     (λ (none : bit_at mask r ≡ 0). or_left (bit_at mask r == 0)
@@ -68,7 +70,7 @@ is_covers_between code mask at to n e c =
     let w = c r (omega arith) has in
     let below : w.0 < to = w.2 in
     or_right (bit_at mask r == 0) (list_any (λ k. is_destination (class_at code k) r) (range_with_len at n))
-    (within_any (λ k. is_destination (class_at code k) r) at n w.0 w.1 (omega arith)
+    (list_any-of_range (λ k. is_destination (class_at code k) r) at n w.0 w.1 (omega arith)
     (trap_rc-is_destination (class_at code w.0) r w.3)))
     (cases_eq (bit_at mask r) 0))
 
@@ -150,20 +152,20 @@ found_at image pc mask at (Some to) is e = by (mask == 0) refl e
               (cases_lt at k);
         }
 
-pub found-is : (image : Parts) (pc mask at : ℕ) → scan image pc mask ≡ Some at → Finds image pc mask at
-found-is image pc mask at e = found_at image pc mask at (place_or_end image pc) refl e
+pub scan-Finds : (image : Parts) (pc mask at : ℕ) → scan image pc mask ≡ Some at → Finds image pc mask at
+scan-Finds image pc mask at e = found_at image pc mask at (place_or_end image pc) refl e
 
 -- an answer that is the scan's
 
-pub if_found : (image : Parts) (pc mask : ℕ) (o : Option ℕ) → o ≡ scan image pc mask
+pub scan-IfSome : (image : Parts) (pc mask : ℕ) (o : Option ℕ) → o ≡ scan image pc mask
     → IfSome o (λ at. Finds image pc mask at)
-if_found image pc mask None e = tt
-if_found image pc mask (Some at) e = found-is image pc mask at (sym e)
+scan-IfSome image pc mask None e = tt
+scan-IfSome image pc mask (Some at) e = scan-Finds image pc mask at (sym e)
 
-pub if_none : (image : Parts) (pc mask : ℕ) (o : Option ℕ) → o ≡ scan image pc mask
+pub scan-IfNone : (image : Parts) (pc mask : ℕ) (o : Option ℕ) → o ≡ scan image pc mask
     → IfNone o ((at : ℕ) → Finds image pc mask at → ⊥)
-if_none image pc mask None e = λ at f. let g = e ∙ scan-is image pc mask at f in cc
-if_none image pc mask (Some at) e = tt
+scan-IfNone image pc mask None e = λ at f. let g = e ∙ scan-is image pc mask at f in cc
+scan-IfNone image pc mask (Some at) e = tt
 
 -- the scan at a place, with registers
 pub scan-at : (image : Parts) (pc mask to : ℕ) → mask ≢ 0 → place_or_end image pc ≡ Some to

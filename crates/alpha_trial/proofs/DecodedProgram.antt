@@ -191,7 +191,7 @@ blocks_fine (suc n) g =
     let y = pcg32 x.1 in
     All-append IsLevelOneWord (block_words x.0 y.0) (blocks_words n y.1) (block_fine x.0 y.0) (blocks_fine n y.1)
 
-pub program_fine : (n : ℕ) → All IsLevelOneWord (program_words n)
+pub program_words-IsLevelOneWord : (n : ℕ) → All IsLevelOneWord (program_words n)
 unfolding program_words
-program_fine n =
+program_words-IsLevelOneWord n =
     All-append IsLevelOneWord (blocks_words n (seeded n)) ending_words (blocks_fine n (seeded n)) ending_fine

@@ -39,7 +39,7 @@ use Rattle.alpha_trial.proofs.DataBuffer.{data_base, HoldsEight, buffer-fault_of
 use Rattle.alpha_trial.proofs.RunStages.{RegisterFact, register_fact, HoldsFacts, StageReached, LeavesFacts, Stage}
 use Rattle.alpha_trial.proofs.RunStages.{trial_program}
 use Rattle.alpha_trial.proofs.RunStages.{advance-at_class, next_stage}
-use Rattle.alpha_trial.proofs.RunStages.{setting_leaves, address_stage, known_after}
+use Rattle.alpha_trial.proofs.RunStages.{setting_leaves, address_stage, HasFacts-put}
 use Rattle.alpha_trial.proofs.StepsWithoutEffect.{zero_register_fact, ending_class, blocks_stage}
 
 -- ---- the words
@@ -179,8 +179,8 @@ write_leaves image mem s eight h =
       there = record {
         size = length-put (put s.regs 0 8) 19 0 ∙ (length-put s.regs 0 8 ∙ h.size);
         known =
-            known_after zero_register_fact (put s.regs 0 8) 19 0 refl
-            (known_after zero_register_fact s.regs 0 8 refl (k.1.1.1.1.1));
+            HasFacts-put zero_register_fact (put s.regs 0 8) 19 0 refl
+            (HasFacts-put zero_register_fact s.regs 0 8 refl (k.1.1.1.1.1));
         memory = h.memory;
       };
     })
@@ -307,13 +307,14 @@ module _ (n : ℕ) (most : n ≤ 20000) where
       (words_are n).word9 stage9))
 
 -- the run of enough steps is that of as many as the program has words
-pub run_is : (n units : ℕ) → n ≤ 20000 → 9 * n + 10 ≤ units
+pub sequential_run-after : (n units : ℕ) → n ≤ 20000 → 9 * n + 10 ≤ units
     → sequential_run units (trial_image n) ≡ after (trial_program n) (start (trial_program n)) [] (9 * n + 10)
 unfolding sequential_run
-run_is n units most enough =
+sequential_run-after n units most enough =
     after-over (trial_program n) (start (trial_program n)) [] units (9 * n + 10) enough
     (ap is_over (ends_there n most).last)
 
-pub run_exits : (n units : ℕ) → n ≤ 20000 → 9 * n + 10 ≤ units
+pub sequential_run-Exits : (n units : ℕ) → n ≤ 20000 → 9 * n + 10 ≤ units
     → Exits (9 * n + 10) (sequential_run units (trial_image n))
-run_exits n units most enough = subst (Exits (9 * n + 10)) (sym (run_is n units most enough)) (ends_there n most)
+sequential_run-Exits n units most enough =
+    subst (Exits (9 * n + 10)) (sym (sequential_run-after n units most enough)) (ends_there n most)

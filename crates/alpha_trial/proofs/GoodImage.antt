@@ -7,7 +7,7 @@ use Rattle.alpha_image.specs.Numbers.{Numbers}
 use Rattle.alpha_image.specs.Rules.{AreApart, IsBase, regions, size_of_segment, FieldsFit}
 use Rattle.alpha_image.specs.Parts.{IsImage, IsByte}
 use Rattle.alpha_trial.specs.Words.{program_words, trial_image}
-use Rattle.alpha_trial.proofs.DecodedProgram.{program_fine}
+use Rattle.alpha_trial.proofs.DecodedProgram.{program_words-IsLevelOneWord}
 use Rattle.alpha_trial.proofs.WordCounts.{program_size}
 
 abbrev variables : Segment
@@ -46,13 +46,13 @@ FieldsFit-with_words size some most = record {
   segments = omega arith;
 }
 
-pub image_good : (n : ℕ) → n ≤ 20000 → IsImage (trial_image n)
-image_good n most =
+pub trial_image-IsImage : (n : ℕ) → n ≤ 20000 → IsImage (trial_image n)
+trial_image-IsImage n most =
     let size = program_size n in
     record {
       version = (refl, refl);
       fields = FieldsFit-with_words (length (program_words n)) (omega arith) (omega arith);
-      words = program_fine n;
+      words = program_words-IsLevelOneWord n;
       bytes = All-nil IsByte;
       filled = refl;
     }

@@ -20,7 +20,7 @@ use Rattle.alpha_restart.proofs.CodeWordBounds.{class_within}
 use Rattle.alpha_restart.proofs.ImagePlaces.{next_class-class_at, next_address}
 use Rattle.alpha_trial.specs.Words.{program_words, trial_image}
 use Rattle.alpha_trial.specs.Report.{wrapping}
-use Rattle.alpha_trial.proofs.GoodImage.{image_good}
+use Rattle.alpha_trial.proofs.GoodImage.{trial_image-IsImage}
 
 -- ---- what is known of registers
 
@@ -44,13 +44,13 @@ facts_spare r (f ∷ facts) = not (eqb f.register r) && facts_spare r facts
 eqb-differ : (a b : ℕ) → not (eqb a b) ≡ true → a ≢ b
 eqb-differ a b e same = let f : not true ≡ true = sym (ap not (eq-eqb a b same)) ∙ e in cc
 
-pub known_after : (facts : List RegisterFact) (regs : List ℕ) (r v : ℕ) → facts_spare r facts ≡ true
+pub HasFacts-put : (facts : List RegisterFact) (regs : List ℕ) (r v : ℕ) → facts_spare r facts ≡ true
     → HasFacts facts regs
     → HasFacts facts (put regs r v)
-known_after [] regs r v e h = tt
-known_after (f ∷ facts) regs r v e h =
+HasFacts-put [] regs r v e h = tt
+HasFacts-put (f ∷ facts) regs r v e h =
     let parts = and_parts (not (eqb f.register r)) (facts_spare r facts) e in
-    (reg-put_other regs r f.register v (eqb-differ f.register r parts.0) ∙ h.0, known_after facts regs r v parts.1 h.1)
+    (reg-put_other regs r f.register v (eqb-differ f.register r parts.0) ∙ h.0, HasFacts-put facts regs r v parts.1 h.1)
 
 -- ---- where a run stands
 
@@ -96,12 +96,13 @@ module _ (n : ℕ) (most : n ≤ 20000) where
   advance-at_class k r c there going at none =
       advance-going (trial_program n) r going
       ∙ (ap (λ (o : Option Class). extended_by r (step (trial_program n) o r.at.state r.left))
-      (next_class-class_at (trial_program n) (image_good n most) k r.at.state.pc at ∙ there)
+      (next_class-class_at (trial_program n) (trial_image-IsImage n most) k r.at.state.pc at ∙ there)
       ∙ ap (λ (l : List ℕ). extended_by r (step (trial_program n) (Some c) r.at.state l)) none)
 
   one_more : (k : ℕ) (c : Class) (facts later : List RegisterFact) (mem new : List Block) (out more : List ℕ) (r : Run)
       → class_at (program_words n) k ≡ Some c
-      → StageReached n k facts mem out r → LeavesFacts later new more r.at.state (step (trial_program n) (Some c) r.at.state [])
+      → StageReached n k facts mem out r
+      → LeavesFacts later new more r.at.state (step (trial_program n) (Some c) r.at.state [])
       → StageReached n (k + 1) later new (out ++ more) (advance (trial_program n) r)
   one_more k c facts later mem new out more r there s l =
       let t = step (trial_program n) (Some c) r.at.state [] in
@@ -113,7 +114,7 @@ module _ (n : ℕ) (most : n ≤ 20000) where
         pc =
             l.pc
             ∙ (ap (λ (a : ℕ). (a + 4) % 2 ^ 64) s.pc
-            ∙ next_address (trial_image n) (image_good n most) k (class_within (program_words n) k c there));
+            ∙ next_address (trial_image n) (trial_image-IsImage n most) k (class_within (program_words n) k c there));
         none = drop-nil_of (length (given t.event)) r.left s.none;
         puts =
             output-append r.events (t.event ∷ [])
@@ -146,7 +147,7 @@ setting_leaves facts mem s r v w small e same h = record {
   puts = refl;
   there = record {
     size = length-put s.regs r v ∙ h.size;
-    known = (reg-put_same s.regs r v small h.size ∙ same, known_after facts s.regs r v e h.known);
+    known = (reg-put_same s.regs r v small h.size ∙ same, HasFacts-put facts s.regs r v e h.known);
     memory = h.memory;
   };
 }

@@ -17,7 +17,7 @@ use Rattle.alpha_imprecise.specs.Run.{seen}
 use Rattle.alpha_imprecise.specs.ChosenRun.{ChosenRun, begun, chosen_run, first_words, most_words}
 use Rattle.alpha_imprecise.specs.Oracle.{Oracle}
 use Rattle.alpha_imprecise.specs.ImpreciseState.{ImpreciseState, trap_in, waited_in, begun_at}
-use Rattle.alpha_imprecise.proofs.FreshRuns.{told_starts}
+use Rattle.alpha_imprecise.proofs.FreshRuns.{OracleDraws-Starts}
 use Rattle.alpha_run.specs.SeqRun.{SeqRan}
 use Rattle.alpha_run.specs.ImpreciseRan.{ImpreciseRanAs}
 use Rattle.alpha_run.proofs.SeqShown as sequential
@@ -79,7 +79,7 @@ makes_to last units left old new before after input out notes bytes count ahead 
     let whole = imprecise.whole_run-ImpreciseRanAs last units left false old new before after input out notes ran in
     let words = whole.ran.words in
     let few = imprecise.few_drawn last units left false old new before after input out notes whole calm in
-    let s = told_starts before after ahead words (most_words units) tells whole.ran.drew few in
+    let s = OracleDraws-Starts before after ahead words (most_words units) tells whole.ran.drew few in
     let fed = whole.ran.fed.told [] told in
     let there =
     imprecise.told_from last units left false old new before after input out notes whole [] s.coming fed.0 fed.1 in
@@ -100,7 +100,8 @@ makes_to last units left old new before after input out notes bytes count ahead 
           record { overflows = new.machine.overflows; steps = units - left; output = l; drawn = length words })
           (all_written out.old out.new (output (seen whole.ran.steps)) bytes from to whole.ran.wrote.written)));
       few = few;
-      counted = imprecise.drawn_from_none before.count after.count count (length words) zero now whole.ran.drew.counted;
+      counted =
+          imprecise.CountsWords-from_zero before.count after.count count (length words) zero now whole.ran.drew.counted;
       program = whole.ran.program;
     }
 

@@ -19,14 +19,14 @@ use Rattle.alpha_seq.specs.State.{State, Overflowed, stepped}
 use Rattle.alpha_seq.specs.Start.{start_memory, start_regs, start}
 use Rattle.alpha_seq.specs.Step.{onward, setting, logging, went, step}
 use Rattle.alpha_seq.specs.Run.{after}
-use Rattle.alpha_restart.proofs.Registers.{reg-put_unset, never_zero}
-use Rattle.alpha_restart.proofs.StartState.{ready_start}
+use Rattle.alpha_restart.proofs.Registers.{reg-put_unset, but_zero-not_31}
+use Rattle.alpha_restart.proofs.StartState.{IsReady-start}
 use Rattle.alpha_trial.specs.Program.{seeded}
 use Rattle.alpha_trial.specs.Words.{block_words, blocks_words, ending_words, program_words, trial_image}
 use Rattle.alpha_trial.specs.Report.{wrapping}
 use Rattle.alpha_trial.proofs.DecodedProgram.{class_first, class_second}
-use Rattle.alpha_trial.proofs.TrialShadows.{behind_at}
-use Rattle.alpha_trial.proofs.GoodImage.{image_good}
+use Rattle.alpha_trial.proofs.TrialShadows.{class_at-past_block}
+use Rattle.alpha_trial.proofs.GoodImage.{trial_image-IsImage}
 use Rattle.alpha_trial.proofs.RunStages.{RegisterFact, register_fact, HoldsFacts, LeavesFacts, Stage, trial_program}
 use Rattle.alpha_trial.proofs.RunStages.{next_stage}
 
@@ -55,7 +55,8 @@ set_holds : (mem : List Block) (s t : State) (r v : ℕ) → t.regs ≡ put s.re
     → HoldsFacts zero_register_fact mem s → HoldsFacts zero_register_fact mem t
 set_holds mem s t r v regs memory h = record {
   size = ap length regs ∙ (length-put s.regs r v ∙ h.size);
-  known = (ap (λ (file : List ℕ). reg file 31) regs ∙ (reg-put_unset s.regs r 31 v (never_zero r) ∙ h.known.0), tt);
+  known =
+      (ap (λ (file : List ℕ). reg file 31) regs ∙ (reg-put_unset s.regs r 31 v (but_zero-not_31 r) ∙ h.known.0), tt);
   memory = memory ∙ h.memory;
 }
 
@@ -141,7 +142,7 @@ NoEffectBlock-at (suc n) k g rest low =
     ⊎_elim
     (λ (h : k < 9). NoEffectBlock-block x.0 y.0 k (blocks_words n y.1 ++ rest) h)
     (λ (h : 9 ≤ k).
-    subst NoEffectBlock (sym (behind_at x.0 y.0 (k - 9) k (blocks_words n y.1 ++ rest) (omega arith)))
+    subst NoEffectBlock (sym (class_at-past_block x.0 y.0 (k - 9) k (blocks_words n y.1 ++ rest) (omega arith)))
     (NoEffectBlock-at n (k - 9) y.1 rest (omega arith)))
     (cases_lt k 9)
 
@@ -150,7 +151,7 @@ behind_blocks zero j g rest = ap (class_at rest) (let e : 9 * 0 + j ≡ j = omeg
 behind_blocks (suc n) j g rest =
     let x = pcg32 g in
     let y = pcg32 x.1 in
-    behind_at x.0 y.0 (9 * n + j) (9 * suc n + j) (blocks_words n y.1 ++ rest) (omega arith)
+    class_at-past_block x.0 y.0 (9 * n + j) (9 * suc n + j) (blocks_words n y.1 ++ rest) (omega arith)
     ∙ behind_blocks n j y.1 rest
 
 -- the words of the ending stand behind those of the blocks
@@ -164,7 +165,7 @@ start_holds : (n : ℕ) → n ≤ 20000
     → HoldsFacts zero_register_fact (start_memory (trial_image n)) (start (trial_program n))
 unfolding start_regs reg put
 start_holds n most = record {
-  size = (ready_start (trial_program n) (image_good n most)).size;
+  size = (IsReady-start (trial_program n) (trial_image-IsImage n most)).size;
   known = (refl, tt);
   memory = refl;
 }

@@ -7,7 +7,7 @@ use Rattle.alpha_words.specs.declared.Completion.TheVariants.{Wrap}
 use Rattle.alpha_seq.specs.State.{State, Event, Went, Barriered, Overflowed, Ends, Stepped}
 use Rattle.alpha_seq.specs.Start.{start}
 use Rattle.alpha_seq.specs.Run.{Run, output, end_of, begins, Runs, after}
-use Rattle.alpha_seq.proofs.RunSequence.{Runs-one, after-fed}
+use Rattle.alpha_seq.proofs.RunSequence.{Runs-deterministic, after-fed}
 use Rattle.alpha_imprecise.specs.StepResult.{ImpreciseEvent, Precisely, Triggered, Waited, Reported, Lost}
 use Rattle.alpha_imprecise.specs.Run.{seen, imprecise_start, RunsOver}
 use Rattle.alpha_imprecise.specs.Pcg.{pcg_word, seeded}
@@ -19,19 +19,20 @@ use Rattle.alpha_imprecise.proofs.DrawnRuns.{chosen_run-over}
 use Rattle.alpha_imprecise.proofs.EventCounts.{RunsImprecisely-nothing_pending}
 use Rattle.alpha_imprecise.proofs.PendingTraps.{made_is}
 use Rattle.alpha_imprecise.proofs.ShownRuns.{choices_alike}
-use Rattle.alpha_restart.proofs.Agreement.{accepted_restarts}
+use Rattle.alpha_restart.proofs.Agreement.{IsAccepted-IsRestartable}
 use Rattle.alpha_trial.specs.Words.{program_words, trial_image}
 use Rattle.alpha_trial.specs.Report.{Tally, run_tally, making_tally, line, sequential_run, imprecise_run, text_within}
 use Rattle.alpha_trial.specs.Report.{trial_text}
 use Rattle.alpha_trial.specs.Lines.{Exits, EndsAlike, tally, HasLines}
 use Rattle.alpha_trial.proofs.TrialShadows.{program_accepted}
-use Rattle.alpha_trial.proofs.GoodImage.{image_good}
+use Rattle.alpha_trial.proofs.GoodImage.{trial_image-IsImage}
 use Rattle.alpha_trial.proofs.RunStages.{trial_program}
-use Rattle.alpha_trial.proofs.ExitBlock.{run_exits}
+use Rattle.alpha_trial.proofs.ExitBlock.{sequential_run-Exits}
 use Rattle.alpha_trial.proofs.OverflowDraws.{log_count-at_most_overflows}
 
 IsRestartable-trial_image : (n : ℕ) → n ≤ 20000 → IsRestartable (trial_image n)
-IsRestartable-trial_image n most = accepted_restarts (trial_image n) (image_good n most) (program_accepted n)
+IsRestartable-trial_image n most =
+    IsAccepted-IsRestartable (trial_image n) (trial_image-IsImage n most) (program_accepted n)
 
 ends_by : (event : Event) (e : End) → end_of event ≡ Some e → event ≡ Ends e
 ends_by Went e h = cc
@@ -80,7 +81,7 @@ ends_alike n units r k exits is h drawn =
     (Ends (Exit 0)) last in
     let follows = h.agrees.follows calm in
     let runs = subst (λ (q : Run). Runs g (begins s) q.events q.at) (sym is) (after-fed g s [] units).runs in
-    let at : r.at ≡ follows.last = Runs-one g r.events (begins s) r.at follows.last runs
+    let at : r.at ≡ follows.last = Runs-deterministic g r.events (begins s) r.at follows.last runs
     (subst (λ (l : List Event). Runs g (begins s) l follows.last) same.events follows.runs) in
     record {
       last = last ∙ ap Precisely (sym exits.last);
@@ -98,7 +99,7 @@ run_alike n units seed most enough =
     let g = trial_program n in
     let few = log_count-at_most_overflows g (start g) [] words units in
     ends_alike n units (sequential_run units (trial_image n)) (chosen_run g (begun (start g) [] None 0 words) units)
-    (run_exits n units most enough) refl (restarted n units words most) (omega arith)
+    (sequential_run-Exits n units most enough) refl (restarted n units words most) (omega arith)
 
 lines_of : (n : ℕ) (r : Run) (k : ChosenRun) → Exits (9 * n + 10) r → EndsAlike r k
     → HasLines n
@@ -131,4 +132,4 @@ pub text_lines : (n : ℕ) → n ≤ 20000 → HasLines n (trial_text n)
 unfolding trial_text text_within
 text_lines n most =
     lines_of n (sequential_run 100000000 (trial_image n)) (imprecise_run 100000000 (trial_image n) n)
-    (run_exits n 100000000 most (omega arith)) (run_alike n 100000000 n most (omega arith))
+    (sequential_run-Exits n 100000000 most (omega arith)) (run_alike n 100000000 n most (omega arith))

@@ -125,12 +125,14 @@ source_stays code q t at b low order high (at_two e c) h =
 source_stays code q t at b low order high (at_three e c) h =
     let above = h.2.above in
     let below = h.2.below in
-    false_true (sym (uses-not_result code q h.2.place h.0 (In-behind_trigger code q h.2.place b (omega arith) (omega arith))
+    false_true
+    (sym (uses-not_result code q h.2.place h.0 (In-behind_trigger code q h.2.place b (omega arith) (omega arith))
     (inl (same_some 4 h.0 (ap sets (sym c) ∙ h.1)))) ∙ h.2.uses)
 source_stays code q t at b low order high (at_four e c) h =
     let above = h.2.above in
     let below = h.2.below in
-    false_true (sym (uses-not_result code q h.2.place h.0 (In-behind_trigger code q h.2.place b (omega arith) (omega arith))
+    false_true
+    (sym (uses-not_result code q h.2.place h.0 (In-behind_trigger code q h.2.place b (omega arith) (omega arith))
     (inr (same_some 5 h.0 (ap sets (sym c) ∙ h.1)))) ∙ h.2.uses)
 source_stays code q t at b low order high (at_five e c) h = let none : None ≡ Some h.0 = ap sets (sym c) ∙ h.1 in cc
 
@@ -199,8 +201,9 @@ class_at-behind_block : (x y k : ℕ) (rest : List ℕ)
 unfolding class_at
 class_at-behind_block x y k rest = refl
 
-pub behind_at : (x y k n : ℕ) (rest : List ℕ) → n ≡ k + 9 → class_at (block_words x y ++ rest) n ≡ class_at rest k
-behind_at x y k n rest e =
+pub class_at-past_block : (x y k n : ℕ) (rest : List ℕ) → n ≡ k + 9
+    → class_at (block_words x y ++ rest) n ≡ class_at rest k
+class_at-past_block x y k n rest e =
     let nine : n ≡ suc (suc (suc (suc (suc (suc (suc (suc (suc k)))))))) = omega arith in
     ap (class_at (block_words x y ++ rest)) nine ∙ class_at-behind_block x y k rest
 
@@ -208,10 +211,10 @@ found_behind : (x y k t : ℕ) (rest : List ℕ) → t ≡ k + 9 → Found rest 
 found_behind x y k t rest e f = record {
   q = f.q + 9;
   block = record {
-    two = behind_at x y (f.q + 2) (f.q + 9 + 2) rest (omega arith) ∙ f.block.two;
-    three = behind_at x y (f.q + 3) (f.q + 9 + 3) rest (omega arith) ∙ f.block.three;
-    four = behind_at x y (f.q + 4) (f.q + 9 + 4) rest (omega arith) ∙ f.block.four;
-    five = behind_at x y (f.q + 5) (f.q + 9 + 5) rest (omega arith) ∙ f.block.five;
+    two = class_at-past_block x y (f.q + 2) (f.q + 9 + 2) rest (omega arith) ∙ f.block.two;
+    three = class_at-past_block x y (f.q + 3) (f.q + 9 + 3) rest (omega arith) ∙ f.block.three;
+    four = class_at-past_block x y (f.q + 4) (f.q + 9 + 4) rest (omega arith) ∙ f.block.four;
+    five = class_at-past_block x y (f.q + 5) (f.q + 9 + 5) rest (omega arith) ∙ f.block.five;
   };
   low = (let l = f.low in omega arith);
   high = (let h = f.high in omega arith);

@@ -9,7 +9,7 @@ use Rattle.alpha_table.specs.Spans.{bytes_spanned}
 use Rattle.alpha_table.specs.Uses.{first_byte}
 use Rattle.alpha_values.specs.Address.{address_of, access_address, Covers, AccessesMeet}
 use Rattle.alpha_values.specs.InSpan.{IsInSpan}
-use Rattle.alpha_values.proofs.MachineWords.{register_is, register_bound}
+use Rattle.alpha_values.proofs.MachineWords.{register_of-mod, register_of-lt}
 
 -- a displacement, counted from the lowest one
 displacement_from_lowest : ℤ → ℕ
@@ -27,7 +27,7 @@ address_raised : (base : ℕ) (d : ℤ) → FitsSigned w16 d
 unfolding address_of
 address_raised base d fits =
     let is = (raised_is d fits).0 in
-    register_is (pos base +ℤ d) 1 (base + (2 ^ 64 - 32768) + displacement_from_lowest d) (omega (arith, ints))
+    register_of-mod (pos base +ℤ d) 1 (base + (2 ^ 64 - 32768) + displacement_from_lowest d) (omega (arith, ints))
 
 -- where two addresses by one base lie in memory, they lie as far apart as their displacements
 as_far : (base : ℕ) (d e : ℤ) → base < 2 ^ 64 → FitsSigned w16 d → FitsSigned w16 e
@@ -38,7 +38,7 @@ as_far base d e small fits also low under =
 
 address_of-lt : (base : ℕ) (d : ℤ) → address_of base d < 2 ^ 64
 unfolding address_of
-address_of-lt base d = register_bound _
+address_of-lt base d = register_of-lt _
 
 -- an access by the way it comes to its address
 access_by : (c : MemAccess) (base : ℕ) (clears : Bool) → c.clears ≡ clears

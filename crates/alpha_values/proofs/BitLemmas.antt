@@ -17,23 +17,23 @@ or_bits r s small also = omega (arith, bit_at_or r s 0, or_lt 1 r s small also)
 xor_bits : (r s : ℕ) → r < 2 → s < 2 → bit_xor r s ≡ (r + s) % 2
 xor_bits r s small also = omega (arith, bit_at_xor r s 0, xor_lt 1 r s small also)
 
-pub bit_and_is : (a b : ℕ) → a < 2 ^ 64 → b < 2 ^ 64 → bit_and a b ≡ and_of (bits_of a) (bits_of b)
+pub bit_and-and_of : (a b : ℕ) → a < 2 ^ 64 → b < 2 ^ 64 → bit_and a b ≡ and_of (bits_of a) (bits_of b)
 unfolding and_of
-bit_and_is a b small also =
+bit_and-and_of a b small also =
     sym (number-pairwise bit_and min refl
     (λ a b r s x y. and_block 1 a b r s x y ∙ ap (λ m. bit_and a b * 2 + m) (and_bits r s x y)) 64 a b small also)
 
-pub bit_or_is : (a b : ℕ) → a < 2 ^ 64 → b < 2 ^ 64 → bit_or a b ≡ or_of (bits_of a) (bits_of b)
+pub bit_or-or_of : (a b : ℕ) → a < 2 ^ 64 → b < 2 ^ 64 → bit_or a b ≡ or_of (bits_of a) (bits_of b)
 unfolding or_of
-bit_or_is a b small also =
+bit_or-or_of a b small also =
     sym (number-pairwise bit_or max refl
     (λ a b r s x y. or_block 1 a b r s x y ∙ ap (λ m. bit_or a b * 2 + m) (or_bits r s x y)) 64 a b small also)
 
-pub bit_xor_is : (a b : ℕ) → a < 2 ^ 64 → b < 2 ^ 64 → bit_xor a b ≡ xor_of (bits_of a) (bits_of b)
+pub bit_xor-xor_of : (a b : ℕ) → a < 2 ^ 64 → b < 2 ^ 64 → bit_xor a b ≡ xor_of (bits_of a) (bits_of b)
 unfolding xor_of
-bit_xor_is a b small also =
+bit_xor-xor_of a b small also =
     sym (number-pairwise bit_xor (λ x y. (x + y) % 2) refl
     (λ a b r s x y. xor_block 1 a b r s x y ∙ ap (λ m. bit_xor a b * 2 + m) (xor_bits r s x y)) 64 a b small also)
 
-pub bit_not_is : (a : ℕ) → a < 2 ^ 64 → bits_of (complement a) ≡ inverted (bits_of a)
-bit_not_is a small = digits-inverted 64 64 a (omega arith) small
+pub complement-inverted : (a : ℕ) → a < 2 ^ 64 → bits_of (complement a) ≡ inverted (bits_of a)
+complement-inverted a small = digits-inverted 64 64 a (omega arith) small

@@ -28,22 +28,23 @@ mod-mod_bytes n size within =
     let whole : 64 ≡ (64 - 8 * size) + 8 * size = omega arith in
     ap (λ k. n % 2 ^ k % 2 ^ (8 * size)) whole ∙ mod-mod-pow n (64 - 8 * size) (8 * size)
 
-pub low_mask_is : (a size : ℕ) → size ≤ 8 → bit_and a (18446744073709551615 / 2 ^ (64 - 8 * size)) ≡ a % 2 ^ (8 * size)
-low_mask_is a size within =
+pub bit_and-low_mask : (a size : ℕ) → size ≤ 8
+    → bit_and a (18446744073709551615 / 2 ^ (64 - 8 * size)) ≡ a % 2 ^ (8 * size)
+bit_and-low_mask a size within =
     let left : 64 - (64 - 8 * size) ≡ 8 * size = omega arith in
     ap (bit_and a) (ones_shr 64 (64 - 8 * size) (omega arith) ∙ ap (λ k. 2 ^ k - 1) left) ∙ and_mask a (8 * size)
 
-pub extracted_low_is : (size a b : ℕ) → a < 2 ^ 64 → extracted_low size a b ≡ bytes_from size a b
+pub extracted_low-bytes_from : (size a b : ℕ) → a < 2 ^ 64 → extracted_low size a b ≡ bytes_from size a b
 unfolding bytes_from
-extracted_low_is size a b small =
+extracted_low-bytes_from size a b small =
     let n = b % 8 in
     sym (number-take 8 size (drop n (bytes_of a)) (AllBelow-drop 256 n _ (bytes-AllBelow a))
     ∙ ap (λ m. m % 2 ^ (8 * size))
     (number-drop 8 n (bytes_of a) (bytes-AllBelow a) ∙ ap (λ m. m / 2 ^ (8 * n)) (number-bytes a small)))
 
-pub extracted_high_is : (size a b : ℕ) → size ≤ 8 → a < 2 ^ 64 → extracted_high size a b ≡ bytes_above size a b
+pub extracted_high-bytes_above : (size a b : ℕ) → size ≤ 8 → a < 2 ^ 64 → extracted_high size a b ≡ bytes_above size a b
 unfolding bytes_above
-extracted_high_is size a b within small =
+extracted_high-bytes_above size a b within small =
     let up = (8 - b % 8) % 8 in
     let below =
     AllBelow-append 256 (replicate up 0) (bytes_of a) (zeros-AllBelow 256 up (omega arith)) (bytes-AllBelow a) in
@@ -75,27 +76,27 @@ number-inserted size a b within =
     ∙ ap (λ m. 2 ^ (8 * (b % 8)) * m) (number-take 8 size (bytes_of a) (bytes-AllBelow a)
     ∙ (ap (λ m. m % 2 ^ (8 * size)) (number-digits 8 8 a) ∙ mod-mod_bytes a size within))
 
-pub inserted_low_is : (size a b : ℕ) → size ≤ 8 → inserted size a b % 2 ^ 64 ≡ low_placed size a b
+pub inserted-low_placed : (size a b : ℕ) → size ≤ 8 → inserted size a b % 2 ^ 64 ≡ low_placed size a b
 unfolding low_placed
-inserted_low_is size a b within =
+inserted-low_placed size a b within =
     let xs = in_sixteen (b % 8) (take size (bytes_of a)) in
     sym (number-take 8 8 xs (in_sixteen-AllBelow 8 (b % 8) (take size (bytes_of a)) (low_bytes-AllBelow size a))
     ∙ ap (λ m. m % 2 ^ 64) (number-inserted size a b within))
 
-pub inserted_high_is : (size a b : ℕ) → size ≤ 8 → inserted size a b / 2 ^ 64 ≡ high_placed size a b
+pub inserted-high_placed : (size a b : ℕ) → size ≤ 8 → inserted size a b / 2 ^ 64 ≡ high_placed size a b
 unfolding high_placed
-inserted_high_is size a b within =
+inserted-high_placed size a b within =
     let xs = in_sixteen (b % 8) (take size (bytes_of a)) in
     sym (number-drop 8 8 xs (in_sixteen-AllBelow 8 (b % 8) (take size (bytes_of a)) (low_bytes-AllBelow size a))
     ∙ ap (λ m. m / 2 ^ 64) (number-inserted size a b within))
 
-pub zapped_is : (a b : ℕ) → zapped a b ≡ cleared (digits 2 8 b) a
+pub zapped-cleared : (a b : ℕ) → zapped a b ≡ cleared (digits 2 8 b) a
 unfolding zapped cleared
-zapped_is a b = refl
+zapped-cleared a b = refl
 
-pub zapped_not_is : (a b : ℕ) → b < 2 ^ 64 → zapped a (complement b) ≡ cleared (inverted (digits 2 8 b)) a
-zapped_not_is a b small =
-    zapped_is a (complement b) ∙ ap (λ marks. cleared marks a) (digits-inverted 8 64 b (omega arith) small)
+pub zapped-cleared_complement : (a b : ℕ) → b < 2 ^ 64 → zapped a (complement b) ≡ cleared (inverted (digits 2 8 b)) a
+zapped-cleared_complement a b small =
+    zapped-cleared a (complement b) ∙ ap (λ marks. cleared marks a) (digits-inverted 8 64 b (omega arith) small)
 
 -- ---- the marks of MSK
 
@@ -122,32 +123,33 @@ length-marks size b within = simp (length-append, length-replicate) (omega arith
 marks-AllBelow : (size b : ℕ) → AllBelow 2 (in_sixteen (b % 8) (replicate size 1))
 marks-AllBelow size b = in_sixteen-AllBelow 1 (b % 8) (replicate size 1) (ones-AllBelow size)
 
-pub masked_low_is : (size a b : ℕ) → size ≤ 8 → zapped a (byte_mask size b) ≡ low_cleared size a b
+pub zapped-low_cleared : (size a b : ℕ) → size ≤ 8 → zapped a (byte_mask size b) ≡ low_cleared size a b
 unfolding low_cleared
-masked_low_is size a b within =
+zapped-low_cleared size a b within =
     let marks = in_sixteen (b % 8) (replicate size 1) in
     let long = length-marks size b within in
-    zapped_is a (byte_mask size b)
+    zapped-cleared a (byte_mask size b)
     ∙ ap (λ xs. cleared xs a)
     (ap (λ m. digits 2 8 m) (sym (number-marks size b)) ∙ digits-number 1 8 marks (marks-AllBelow size b) (omega arith))
 
-pub masked_high_is : (size a b : ℕ) → size ≤ 8 → zapped a (byte_mask size b / 2 ^ 8) ≡ high_cleared size a b
+pub zapped-high_cleared : (size a b : ℕ) → size ≤ 8 → zapped a (byte_mask size b / 2 ^ 8) ≡ high_cleared size a b
 unfolding high_cleared
-masked_high_is size a b within =
+zapped-high_cleared size a b within =
     let marks = in_sixteen (b % 8) (replicate size 1) in
     let high = drop 8 marks in
     let long : length high ≡ 8 = omega (arith, length-drop 8 marks, length-marks size b within) in
     let n : byte_mask size b / 2 ^ 8 ≡ number 2 high =
     ap (λ m. m / 2 ^ 8) (sym (number-marks size b)) ∙ sym (number-drop 1 8 marks (marks-AllBelow size b)) in
-    zapped_is a (byte_mask size b / 2 ^ 8)
+    zapped-cleared a (byte_mask size b / 2 ^ 8)
     ∙ ap (λ xs. cleared xs a)
     (ap (λ m. digits 2 8 m) n
     ∙ (digits-number 1 8 high (AllBelow-drop 2 8 marks (marks-AllBelow size b)) (omega arith)
     ∙ take_all 8 high (omega arith)))
 
 -- the marks as the code shifts them
-pub marked_is : (size b : ℕ) → size ≤ 8 → (1 * 2 ^ size % 2 ^ 64 - 1) * 2 ^ (b % 8) % 2 ^ 64 ≡ byte_mask size b
-marked_is size b within =
+pub byte_mask-shifted_ones : (size b : ℕ) → size ≤ 8
+    → (1 * 2 ^ size % 2 ^ 64 - 1) * 2 ^ (b % 8) % 2 ^ 64 ≡ byte_mask size b
+byte_mask-shifted_ones size b within =
     let one = one_shl size 64 (omega arith) in
     let most = pow_below size 9 (omega arith) in
     let small : 2 ^ size - 1 < 2 ^ 9 = omega arith in
@@ -155,7 +157,8 @@ marked_is size b within =
     ∙ (shl_whole (2 ^ size - 1) 9 (b % 8) 64 small (omega arith) ∙ omega arith)
 
 -- the bytes as the code shifts them
-pub placed_is : (size a b : ℕ) → size ≤ 8 → a % 2 ^ (8 * size) * 2 ^ (8 * (b % 8)) % 2 ^ 128 ≡ inserted size a b
-placed_is size a b within =
+pub inserted-shifted_bytes : (size a b : ℕ) → size ≤ 8
+    → a % 2 ^ (8 * size) * 2 ^ (8 * (b % 8)) % 2 ^ 128 ≡ inserted size a b
+inserted-shifted_bytes size a b within =
     let small = mod_below a (2 ^ (8 * size)) (pow_pos (8 * size)) in
     shl_whole (a % 2 ^ (8 * size)) (8 * size) (8 * (b % 8)) 128 small (omega arith) ∙ omega arith

@@ -15,7 +15,7 @@ use Rattle.alpha_table.specs.Op.{trap_of}
 use Rattle.alpha_values.specs.Numbers.{register_of}
 use Rattle.alpha_values.specs.TrapOp.{size_of, exact, overflow_of, Overflows, completion_of, completed_of}
 use Rattle.alpha_values.specs.Op.{result_of}
-use Rattle.alpha_values.proofs.SignedRanges.{overflow_is}
+use Rattle.alpha_values.proofs.SignedRanges.{overflow_out_of_range}
 
 pub completed-wrap : (level : Level) (op : Op) (trap : TrapOp) (a b old : ℕ) → trap_of op ≡ Some trap
     → completed_of trap a b Wrap ≡ result_of level op a b old
@@ -31,10 +31,10 @@ completed-wrap level _ trap a b old e = cc
 pub Overflows-range : (op : TrapOp) (a b : ℕ) → Overflows op a b ↔ ¬ FitsSigned (size_of op) (exact op a b)
 unfolding overflow_of
 Overflows-range op a b = (
-  λ h fits. let e : false ≡ overflow_of op a b = overflow_is false (size_of op) (exact op a b) fits in
+  λ h fits. let e : false ≡ overflow_of op a b = overflow_out_of_range false (size_of op) (exact op a b) fits in
       let f : overflow_of op a b ≡ true = h in
       cc,
-  λ outside. sym (overflow_is true (size_of op) (exact op a b) outside),
+  λ outside. sym (overflow_out_of_range true (size_of op) (exact op a b) outside),
 )
 
 fits_cases : (w : Width) (z : ℤ) → FitsSigned w z ⊎ ¬ FitsSigned w z

@@ -8,58 +8,58 @@ use Rattle.std.proofs.lemmas.Int.{ints, int_rem_euclid_is, of_z-to_z, int_wrap-a
 use Rattle.std.proofs.lemmas.Int.{int_wrap-sub_right, int_wrap-mul_left, int_wrap-mul_right}
 use Rattle.alpha_values.specs.Numbers.{signed, register_of, wrapped}
 
-pub longword_is : (n : ℕ) → cast_signed w32 (bit_and n 4294967295) ≡ signed w32 n
+pub cast_signed-longword : (n : ℕ) → cast_signed w32 (bit_and n 4294967295) ≡ signed w32 n
 unfolding int_wrap
-longword_is n = ap (cast_signed w32) (and_mask n 32)
+cast_signed-longword n = ap (cast_signed w32) (and_mask n 32)
 
-pub quadword_is : (n : ℕ) → n < 2 ^ 64 → cast_signed w64 n ≡ signed w64 n
+pub cast_signed-quadword : (n : ℕ) → n < 2 ^ 64 → cast_signed w64 n ≡ signed w64 n
 unfolding int_wrap
-quadword_is n small = ap (cast_signed w64) (omega arith)
+cast_signed-quadword n small = ap (cast_signed w64) (omega arith)
 
-pub register_bound : (z : ℤ) → register_of z < 2 ^ 64
+pub register_of-lt : (z : ℤ) → register_of z < 2 ^ 64
 unfolding register_of
-register_bound (pos n) = omega arith
-register_bound (negsuc n) = omega arith
+register_of-lt (pos n) = omega arith
+register_of-lt (negsuc n) = omega arith
 
-pub register_word : (z : ℤ) → FitsSigned w64 z → cast_unsigned w64 z ≡ register_of z
+pub register_of-cast_unsigned : (z : ℤ) → FitsSigned w64 z → cast_unsigned w64 z ≡ register_of z
 unfolding register_of
-register_word (pos n) fits = omega (arith, fits.sfits)
-register_word (negsuc n) fits = omega (arith, fits.sfits)
+register_of-cast_unsigned (pos n) fits = omega (arith, fits.sfits)
+register_of-cast_unsigned (negsuc n) fits = omega (arith, fits.sfits)
 
 -- a number that a multiple of 2 ^ 64 makes natural
-pub register_is : (z : ℤ) (k m : ℕ) → z +ℤ pos (k * 2 ^ 64) ≡ pos m → register_of z ≡ m % 2 ^ 64
+pub register_of-mod : (z : ℤ) (k m : ℕ) → z +ℤ pos (k * 2 ^ 64) ≡ pos m → register_of z ≡ m % 2 ^ 64
 unfolding register_of
-register_is z k m e = ap unsigned_abs (int_rem_euclid_is z _ (2 ^ 64) k m (omega arith) refl e)
+register_of-mod z k m e = ap unsigned_abs (int_rem_euclid_is z _ (2 ^ 64) k m (omega arith) refl e)
 
 -- a register plus a number of 64 bits
-pub sum_word : (n : ℕ) (z : ℤ) → n < 2 ^ 64 → FitsSigned w64 z
+pub register_of-sum : (n : ℕ) (z : ℤ) → n < 2 ^ 64 → FitsSigned w64 z
     → (n + cast_unsigned w64 z) % 2 ^ 64 ≡ register_of (pos n +ℤ z)
-sum_word n (pos m) small fits = sym (register_is _ 0 (n + m) (omega (arith, ints)))
-sum_word n (negsuc m) small fits =
+register_of-sum n (pos m) small fits = sym (register_of-mod _ 0 (n + m) (omega (arith, ints)))
+register_of-sum n (negsuc m) small fits =
     let bound = fits.sfits in
-    sym (register_is (pos n +ℤ negsuc m) 1 (n + cast_unsigned w64 (negsuc m)) (omega (arith, ints)))
+    sym (register_of-mod (pos n +ℤ negsuc m) 1 (n + cast_unsigned w64 (negsuc m)) (omega (arith, ints)))
 
-pub extended_byte_is : (n : ℕ) → cast_signed w8 (bit_and n 255) ≡ signed w8 n
+pub cast_signed-byte : (n : ℕ) → cast_signed w8 (bit_and n 255) ≡ signed w8 n
 unfolding int_wrap
-extended_byte_is n = ap (cast_signed w8) (and_mask n 8)
+cast_signed-byte n = ap (cast_signed w8) (and_mask n 8)
 
-pub extended_word_is : (n : ℕ) → cast_signed w16 (bit_and n 65535) ≡ signed w16 n
+pub cast_signed-word : (n : ℕ) → cast_signed w16 (bit_and n 65535) ≡ signed w16 n
 unfolding int_wrap
-extended_word_is n = ap (cast_signed w16) (and_mask n 16)
+cast_signed-word n = ap (cast_signed w16) (and_mask n 16)
 
 -- ---- the quadword forms in unsigned words
 
 register_signed : (m : ℕ) → m < 2 ^ 64 → register_of (cast_signed w64 m) ≡ m
-register_signed m small = sym (register_word (cast_signed w64 m) (search rules)) ∙ of_z-to_z w64 m small
+register_signed m small = sym (register_of-cast_unsigned (cast_signed w64 m) (search rules)) ∙ of_z-to_z w64 m small
 
 register_wrapped : (z : ℤ) → register_of (int_wrap w64 z) ≡ register_of z
 unfolding int_wrap register_of
-register_wrapped z = register_signed (register_of z) (register_bound z)
+register_wrapped z = register_signed (register_of z) (register_of-lt z)
 
 pub wrapped_sum : (a b : ℕ) → wrapped w64 (signed w64 a +ℤ signed w64 b) ≡ (a + b) % 2 ^ 64
 wrapped_sum a b =
     ap register_of (int_wrap-add_left w64 (pos a) (signed w64 b) ∙ int_wrap-add_right w64 (pos a) (pos b))
-    ∙ (register_wrapped (pos (a + b)) ∙ register_is (pos (a + b)) 0 (a + b) (omega (arith, ints)))
+    ∙ (register_wrapped (pos (a + b)) ∙ register_of-mod (pos (a + b)) 0 (a + b) (omega (arith, ints)))
 
 pub wrapped_difference : (a b : ℕ) → wrapped w64 (signed w64 a -ℤ signed w64 b) ≡ register_of (pos a -ℤ pos b)
 wrapped_difference a b =
@@ -69,4 +69,4 @@ wrapped_difference a b =
 pub wrapped_product : (a b : ℕ) → wrapped w64 (signed w64 a *ℤ signed w64 b) ≡ a * b % 2 ^ 64
 wrapped_product a b =
     ap register_of (int_wrap-mul_left w64 (pos a) (signed w64 b) ∙ int_wrap-mul_right w64 (pos a) (pos b))
-    ∙ (register_wrapped (pos (a * b)) ∙ register_is (pos (a * b)) 0 (a * b) (omega (arith, ints)))
+    ∙ (register_wrapped (pos (a * b)) ∙ register_of-mod (pos (a * b)) 0 (a * b) (omega (arith, ints)))

@@ -23,7 +23,7 @@ use Rattle.alpha_values.specs.Bits.{pairwise, bytes_of}
 use Rattle.alpha_values.specs.Cond.{is_taken}
 use Rattle.alpha_values.specs.Op.{flag, features, implementation, complement, inserted, zapped, bytes_compared}
 use Rattle.alpha_values.specs.Op.{result_of}
-use Rattle.alpha_values.proofs.MachineWords.{register_bound}
+use Rattle.alpha_values.proofs.MachineWords.{register_of-lt}
 use Rattle.alpha_words.proofs.DigitLemmas.{AllBelow, digits-AllBelow, length-digits}
 use Rattle.alpha_values.proofs.CountLemmas.{sum_bits, leading_bits, trailing_bits}
 
@@ -94,29 +94,29 @@ implementation_bound Two = omega arith
 pub result_bound : (level : Level) (op : Op) (a b old : ℕ) → a < 2 ^ 64 → b < 2 ^ 64 → old < 2 ^ 64
     → result_of level op a b old < 2 ^ 64
 unfolding result_of
-result_bound level Addl a b old p q r = register_bound _
-result_bound level AddlV a b old p q r = register_bound _
-result_bound level S4addl a b old p q r = register_bound _
-result_bound level S8addl a b old p q r = register_bound _
-result_bound level Subl a b old p q r = register_bound _
-result_bound level SublV a b old p q r = register_bound _
-result_bound level S4subl a b old p q r = register_bound _
-result_bound level S8subl a b old p q r = register_bound _
-result_bound level Mull a b old p q r = register_bound _
-result_bound level MullV a b old p q r = register_bound _
-result_bound level Addq a b old p q r = register_bound _
-result_bound level AddqV a b old p q r = register_bound _
-result_bound level S4addq a b old p q r = register_bound _
-result_bound level S8addq a b old p q r = register_bound _
-result_bound level Subq a b old p q r = register_bound _
-result_bound level SubqV a b old p q r = register_bound _
-result_bound level S4subq a b old p q r = register_bound _
-result_bound level S8subq a b old p q r = register_bound _
-result_bound level Mulq a b old p q r = register_bound _
-result_bound level MulqV a b old p q r = register_bound _
-result_bound level Sextb a b old p q r = register_bound _
-result_bound level Sextw a b old p q r = register_bound _
-result_bound level Sra a b old p q r = register_bound _
+result_bound level Addl a b old p q r = register_of-lt _
+result_bound level AddlV a b old p q r = register_of-lt _
+result_bound level S4addl a b old p q r = register_of-lt _
+result_bound level S8addl a b old p q r = register_of-lt _
+result_bound level Subl a b old p q r = register_of-lt _
+result_bound level SublV a b old p q r = register_of-lt _
+result_bound level S4subl a b old p q r = register_of-lt _
+result_bound level S8subl a b old p q r = register_of-lt _
+result_bound level Mull a b old p q r = register_of-lt _
+result_bound level MullV a b old p q r = register_of-lt _
+result_bound level Addq a b old p q r = register_of-lt _
+result_bound level AddqV a b old p q r = register_of-lt _
+result_bound level S4addq a b old p q r = register_of-lt _
+result_bound level S8addq a b old p q r = register_of-lt _
+result_bound level Subq a b old p q r = register_of-lt _
+result_bound level SubqV a b old p q r = register_of-lt _
+result_bound level S4subq a b old p q r = register_of-lt _
+result_bound level S8subq a b old p q r = register_of-lt _
+result_bound level Mulq a b old p q r = register_of-lt _
+result_bound level MulqV a b old p q r = register_of-lt _
+result_bound level Sextb a b old p q r = register_of-lt _
+result_bound level Sextw a b old p q r = register_of-lt _
+result_bound level Sra a b old p q r = register_of-lt _
 result_bound level Umulh a b old p q r = high_product_bound a b p q
 result_bound level Cmpeq a b old p q r = flag_bound _
 result_bound level Cmplt a b old p q r = flag_bound _

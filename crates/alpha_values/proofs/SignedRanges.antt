@@ -15,6 +15,7 @@ overflow_by false true w z e h = refl
 overflow_by false false w z e h = let same : false ≡ true = e.1 (int_wrap_fits w z h) in cc
 
 -- a test of what lies outside the range of a size
-pub overflow_is : (overflow : Bool) (w : Width) (z : ℤ) → FalseIff overflow (FitsSigned w z)
+pub overflow_out_of_range : (overflow : Bool) (w : Width) (z : ℤ) → FalseIff overflow (FitsSigned w z)
     → overflow ≡ not (int_eq (int_wrap w z) z)
-overflow_is overflow w z h = overflow_by overflow (int_eq (int_wrap w z) z) w z (Decides-int_eq (int_wrap w z) z) h
+overflow_out_of_range overflow w z h =
+    overflow_by overflow (int_eq (int_wrap w z) z) w z (Decides-int_eq (int_wrap w z) z) h

@@ -14,8 +14,8 @@ use crate::counts::{ones, zeros_above, zeros_below};
 use crate::number::quadword;
 use crate::shifts::{shift_left, shift_right, shift_right_signed};
 use crate::sums::{
-    sign_extend_byte, sign_extend_word, high_product, scaled_difference, scaled_long_difference,
-    scaled_long_sum, scaled_sum,
+    high_product, scaled_difference, scaled_long_difference, scaled_long_sum, scaled_sum,
+    sign_extend_byte, sign_extend_word,
 };
 use crate::{completed, laws_of_completion, overflows, taken};
 use alpha_table::{Cond, Op, TrapOp};

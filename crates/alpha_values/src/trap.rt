@@ -9,7 +9,7 @@ use alpha_words::Completion;
 /// Whether the exact result of Ra and Rb lies outside the signed range of the operation's size, 32
 /// bits for a longword and 64 for a quadword (Architecture Handbook, section 4.4). A longword
 /// operation uses the low 32 bits of both.
-#[tactic(auto, using(crate::proofs::SignedRanges::overflow_is), unfolding(crate::specs::TrapOp::overflow_of))]
+#[tactic(auto, using(crate::proofs::SignedRanges::overflow_out_of_range), unfolding(crate::specs::TrapOp::overflow_of))]
 #[inline(always)]
 pub fn overflows(op: TrapOp, a: u64, b: u64) -> bool
     ensures { result ≡ overflow_of op a b }

@@ -11,7 +11,7 @@ use Rattle.alpha_image.specs.Parts.{Parts, IsImage, IsByte}
 use Rattle.alpha_image.specs.Parts as images
 use Rattle.alpha_asm.specs.Program.{Program, program_of}
 use Rattle.alpha_round.proofs.ListingRoundTrip.{assembled-listing}
-use Rattle.alpha_round.proofs.SameImage.{one-image}
+use Rattle.alpha_round.proofs.SameImage.{IsSourceOf-unique}
 use Rattle.alpha_dis.specs.Listing.{listing}
 use Rattle.alpha_link.specs.declared.fault.ModuleFault.{ModuleFault}
 use Rattle.alpha_link.specs.declared.fault.LinkFault.{LinkFault}
@@ -33,7 +33,7 @@ use Rattle.alpha_cmd.specs.Commands.Link.{Spell, form, there}
 use Rattle.alpha_cmd.proofs.Lawful.{Lawful, HasOutcome, IsRefusal, Faults-lawful, Then-lawful}
 use Rattle.alpha_cmd.proofs.ReadEach.{Each-lawful, Each-zip, AreRelatedEach, RestOfReads, drop_at, rest_next}
 use Rattle.alpha_cmd.proofs.ReadEach.{rest_stops}
-use Rattle.alpha_cmd.proofs.StageLaws.{Reads-lawful, read_bytes, kept_same}
+use Rattle.alpha_cmd.proofs.StageLaws.{Reads-lawful, HasFile-IsByte, KeepsFiles-equal}
 use Rattle.alpha_cmd.specs.Replied.{IsReadEach}
 use Rattle.alpha_cmd.proofs.FormLaws.{IsLawfulForm, making_lawful}
 
@@ -62,7 +62,7 @@ ModuleOf-lawful told whole there number bytes all =
 -- two images are one where their programs are, since the listing of one is a source of both
 same_image : (p q : Parts) → IsImage p → IsImage q → program_of p ≡ program_of q → p ≡ q
 same_image p q good other e =
-    one-image (listing p) p q (good, assembled-listing p good) (other, assembled-listing p good ∙ ap Ok e)
+    IsSourceOf-unique (listing p) p q (good, assembled-listing p good) (other, assembled-listing p good ∙ ap Ok e)
 
 one_program : (entry : List ℕ) (ms : List ModuleParts) (p q : Program) → linked ms entry ≡ Ok p → linked ms entry ≡ Ok q
     → p ≡ q
@@ -154,7 +154,7 @@ modules_lawful told whole there files [] (b ∷ all) is_whole read = absurd read
 modules_lawful told whole there files (n ∷ names) [] is_whole read = absurd read
 modules_lawful told whole there files (n ∷ names) (b ∷ all) is_whole read = (
   (λ before. ModuleOf-lawful told whole there (length before) b
-      (λ h. read_bytes files n b (is_whole h).0 (is_whole h).1 read.0)),
+      (λ h. HasFile-IsByte files n b (is_whole h).0 (is_whole h).1 read.0)),
   modules_lawful told whole there files names all is_whole read.1,
 )
 
@@ -241,7 +241,8 @@ pub files_next : (old middle : Files) (names : List (Bor (List ℕ))) (all after
     → Reads middle name.now module_limit (continues file.items) → after ≡ all ++ file ∷ []
     → FilesLeft old names all i → FilesLeft old names after (i + 1)
 files_next old middle names all after i name file cut kept read is rest =
-    let found = subst (λ f. Reads f name.now module_limit (continues file.items)) (kept_same old middle kept) read in
+    let found =
+    subst (λ f. Reads f name.now module_limit (continues file.items)) (KeepsFiles-equal old middle kept) read in
     let more =
     ap (map (λ (f : Vec ℕ Global). f.items)) is ∙ map-append (λ (f : Vec ℕ Global). f.items) all (file ∷ []) in
     rest_next (λ before name. Reads old name module_limit) (λ (n : Bor (List ℕ)). n.now) names
@@ -256,7 +257,7 @@ pub files_stop : (old middle : Files) (names : List (Bor (List ℕ))) (all : Lis
 files_stop old middle names all i name s line cut kept read rest =
     rest_stops (λ before name. Reads old name module_limit) (λ (n : Bor (List ℕ)). n.now) names
     (FilesOf old (map (λ n. n.now) names)) (map (λ f. f.items) all) i name s line cut
-    (subst (λ f. Reads f name.now module_limit (stops s line)) (kept_same old middle kept) read) rest
+    (subst (λ f. Reads f name.now module_limit (stops s line)) (KeepsFiles-equal old middle kept) read) rest
 
 -- the modules of the files from a place on, behind those that were read
 abbrev pub ModulesLeft : List (Vec ℕ Global) → List ModuleParts → ℕ → Type 0

@@ -2,7 +2,7 @@
 use Rattle.std.proofs.Common.{◌≡◌, ◌⊎◌, ◌∙◌, ◌+◌, ℕ, ◌%◌, ◌^◌, Bool, true, false, List, [], length, Option, None, Some}
 use Rattle.std.proofs.Common.{IsSome, refl, sym, ap, subst, inl, inr, arith}
 use Rattle.alpha_io.specs.Files.{Files}
-use Rattle.alpha_restart.proofs.Agreement.{accepted_restarts}
+use Rattle.alpha_restart.proofs.Agreement.{IsAccepted-IsRestartable}
 use Rattle.alpha_request.specs.declared.options.RunOptions.{RunOptions}
 use Rattle.alpha_request.specs.Origin.{Origin}
 use Rattle.alpha_seq.specs.State.{Program}
@@ -20,7 +20,7 @@ use Rattle.alpha_replay.specs.Journaled.{journal_of, journal_at, is_within, stop
 use Rattle.alpha_replay.specs.JournalEnd.{StopsAt, IsRecorded, IsPast}
 use Rattle.alpha_replay.proofs.JournaledSteps.{stopped_used, units_over, EndsJournal-some}
 use Rattle.alpha_replay.proofs.JournaledRuns.{IsJournaled-single}
-use Rattle.alpha_replay.proofs.JournalBounds.{some_place}
+use Rattle.alpha_replay.proofs.JournalBounds.{IsJournaled-exists}
 use Rattle.alpha_cmd.specs.Outcome.{continues}
 use Rattle.alpha_cmd.specs.Answer.{Answer}
 use Rattle.alpha_cmd.specs.AnswerBy.{World}
@@ -34,7 +34,7 @@ use Rattle.alpha_cmd.specs.Commands.Record.{HasItsJournal, IsStopped, KeepsBehin
 use Rattle.alpha_cmd.specs.Commands.Record.{Records, IsEndStatus, form, there}
 use Rattle.alpha_cmd.proofs.HasShown.{reads_show}
 use Rattle.alpha_cmd.proofs.Lawful.{Lawful, Then-lawful, Goes-lawful}
-use Rattle.alpha_cmd.proofs.StageLaws.{taken_or_not, refused_there}
+use Rattle.alpha_cmd.proofs.StageLaws.{Refuses-decided, Refuses-not_taken}
 use Rattle.alpha_cmd.proofs.FormLaws.{IsPlain, IsLawfulForm, is_fault}
 use Rattle.alpha_cmd.proofs.Commands.Imprecise.{Planned-lawful, planned_good, some_shown, same_shown}
 use Rattle.alpha_cmd.proofs.Commands.Imprecise.{MayShowImprecise-MayLose}
@@ -65,7 +65,7 @@ module _ (n : ℕ) (g : Program) (bytes : List ℕ) (ahead : ℕ → ℕ) where
   -- the run has a journal, or is stopped
   pub some_end : ((p : Parts) × IsRecorded n g bytes ahead p) ⊎ ((k : ChosenRun) × IsPast n g bytes ahead k)
   some_end =
-      let (k, stops) = some_place n g (start g) bytes (first_words (most_words n) ahead) in
+      let (k, stops) = IsJournaled-exists n g (start g) bytes (first_words (most_words n) ahead) in
       at k stops (is_within (journal_at g.completion k)) refl
     where
       at : (k : ChosenRun) → StopsAt n g bytes ahead k → (b : Bool) → is_within (journal_at g.completion k) ≡ b
@@ -84,7 +84,7 @@ keeps_one w out bytes a b c (inr h) (inr g) = h.1 ∙ sym g.1
 
 pub keeps_some : (w : World) (out bytes : List ℕ) (a : Answer)
     → (b : Answer) × KeepsBehind w out bytes a b × (b.output ≡ a.output) × (b.trace ≡ a.trace)
-keeps_some w out bytes a = by (taken_or_not w.files (w.takes out (length bytes)))
+keeps_some w out bytes a = by (Refuses-decided w.files (w.takes out (length bytes)))
   where
     by : Untaken w out bytes ⊎ ¬ Untaken w out bytes
         → (b : Answer) × KeepsBehind w out bytes a b × (b.output ≡ a.output) × (b.trace ≡ a.trace)
@@ -329,7 +329,7 @@ module _ (options : RunOptions) (force : Bool) (out : List ℕ) (w : World) (pla
   kept_plain there has a h (inr k) =
       inr (
         ap (λ (x : Answer). x.status) k.1,
-        λ t. refused_there w.files (w.takes out (length (spelling h.journal))) k.0
+        λ t. Refuses-not_taken w.files (w.takes out (length (spelling h.journal))) k.0
             (has h.journal (has_of options w.input plan h.shown h.journal h.has) t),
       )
 
@@ -364,7 +364,8 @@ module _ (options : RunOptions) (force : Bool) (out : List ℕ) (w : World) (pla
 planned_restarts : (force : Bool) (choices : Origin) (file : List ℕ) (files : Files) (plan : Plan)
     → Planned choices force file files (continues plan) → force ≡ false → IsRestartable plan.image
 planned_restarts force choices file files plan planned judges =
-    let may = planned_good force choices file files plan planned in accepted_restarts plan.image may.0 (may.1 judges)
+    let may = planned_good force choices file files plan planned in
+    IsAccepted-IsRestartable plan.image may.0 (may.1 judges)
 
 pub record_form-lawful : (options : RunOptions) (choices : Origin) (force : Bool) (file out : List ℕ) (w : World)
     → IsLawfulForm (form options choices force file out) (there options choices force file out) w

@@ -11,7 +11,8 @@ use Rattle.alpha_replay.specs.Journal.{Parts, IsJournal, spelling}
 use Rattle.alpha_replay.specs.JournalFault.{first_fault}
 use Rattle.alpha_replay.specs.Reading.{parts_of}
 use Rattle.alpha_replay.specs.Replay.{replayed}
-use Rattle.alpha_replay.proofs.JournalSpelling.{one_journal, journal_first_fault-spelling, journal-no_fault}
+use Rattle.alpha_replay.proofs.JournalSpelling.{journal_spelling-injective, journal_first_fault-spelling}
+use Rattle.alpha_replay.proofs.JournalSpelling.{journal-no_fault}
 use Rattle.alpha_cmd.specs.declared.status.Status.TheVariants.{BadJournal, NotARun, NoMemory}
 use Rattle.alpha_cmd.specs.declared.stop.Stop.{Stop}
 use Rattle.alpha_cmd.specs.declared.stop.Stop.TheVariants.{OfStatus}
@@ -24,7 +25,7 @@ use Rattle.alpha_cmd.specs.Commands.Replay.{journal_limit, SpellsJournal, Journa
 use Rattle.alpha_cmd.specs.Stage.{StopsBy, stop_status, stop_line}
 use Rattle.alpha_cmd.specs.declared.status.Status.{Status}
 use Rattle.alpha_cmd.proofs.Lawful.{Lawful, IsRefusal, HasOutcome, Faults-lawful, Then-lawful, Gives-lawful}
-use Rattle.alpha_cmd.proofs.StageLaws.{Reads-lawful, ImageOf-lawful, read_bytes, kept_same}
+use Rattle.alpha_cmd.proofs.StageLaws.{Reads-lawful, ImageOf-lawful, HasFile-IsByte, KeepsFiles-equal}
 use Rattle.alpha_cmd.proofs.FormLaws.{IsLawfulForm, is_fault}
 
 -- ---- a journal
@@ -40,7 +41,7 @@ SpellsJournal-lawful : (told whole there : Type 0) (bytes : List ℕ) → (whole
 SpellsJournal-lawful told whole there bytes all =
     Faults-lawful (λ p. IsJournal p × (bytes ≡ spelling p)) BadJournal (first_fault bytes) Some (λ f g e. cc)
     (λ f. refl)
-    (λ a b h g. one_journal a b h.0 g.0 (sym h.1 ∙ g.1))
+    (λ a b h g. journal_spelling-injective a b h.0 g.0 (sym h.1 ∙ g.1))
     (λ a f h first. let none = ap first_fault h.1 ∙ journal_first_fault-spelling a h.0 in cc)
     (λ h. spells_some bytes (all h) (first_fault bytes) refl)
 
@@ -69,7 +70,7 @@ replay_form-lawful file journal w = record {
       Then-lawful {R = JournalOf w.files journal} {S = Plays image}
       (Then-lawful {R = Reads w.files journal journal_limit} {S = SpellsJournal}
       (Reads-lawful _ _ _ w.files journal journal_limit (λ h. h) (λ h. h.0) (λ h. h.1))
-      (λ bytes read. SpellsJournal-lawful _ _ _ bytes (λ h. read_bytes w.files journal bytes h.0 h.1 read.0)))
+      (λ bytes read. SpellsJournal-lawful _ _ _ bytes (λ h. HasFile-IsByte w.files journal bytes h.0 h.1 read.0)))
       (λ p spelled. Plays-lawful _ _ _ image p)))
       (λ r ran. Gives-lawful (shown w.input r));
   ends = λ a h. inl (ap (λ (x : Answer). is_fault x.status) h.2);
@@ -81,7 +82,7 @@ replay_form-lawful file journal w = record {
 -- a journal that is read after the image
 pub journal_after : (a b : Files) (name : List ℕ) (p : Parts) → KeepsFiles a b → JournalOf b name (continues p)
     → JournalOf a name (continues p)
-journal_after a b name p kept h = subst (λ f. JournalOf f name (continues p)) (kept_same a b kept) h
+journal_after a b name p kept h = subst (λ f. JournalOf f name (continues p)) (KeepsFiles-equal a b kept) h
 
 -- a journal that is no run, or want of memory
 pub played_by : (shelf : Type 0) (a : Files) (file name : List ℕ) (image : Image) (p : Parts) (r : Result Replayed Stop)

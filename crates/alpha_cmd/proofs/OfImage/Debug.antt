@@ -7,14 +7,14 @@ use Rattle.alpha_debug.specs.declared.end.DebugEnd.{DebugEnd}
 use Rattle.alpha_debug.specs.declared.end.DebugEnd.TheVariants as ends
 use Rattle.alpha_debug.specs.Script.{Transcript, transcript}
 use Rattle.alpha_debug.specs.Session.{Setting, IsVerdict}
-use Rattle.alpha_debug.proofs.Transcripts.{one_transcript, some_transcript}
+use Rattle.alpha_debug.proofs.Transcripts.{IsTranscript-unique, IsTranscript-exists}
 use Rattle.alpha_cmd.specs.Outcome.{continues}
 use Rattle.alpha_cmd.specs.Answer.{Answer}
 use Rattle.alpha_cmd.specs.AnswerBy.{World}
 use Rattle.alpha_cmd.specs.Form.{IsThere, streams}
 use Rattle.alpha_cmd.specs.OfImage.Debug.{MayTell, session_status, answer_told, Debugs, IsEndStatus}
 use Rattle.alpha_cmd.proofs.Lawful.{Lawful, Goes-lawful}
-use Rattle.alpha_cmd.proofs.StageLaws.{same_least}
+use Rattle.alpha_cmd.proofs.StageLaws.{IsLeastBroken-unique}
 use Rattle.alpha_cmd.proofs.FormLaws.{IsLawfulForm, is_fault, form_of_file, of_file_lawful}
 
 -- ---- a session has one transcript, and some
@@ -23,7 +23,7 @@ same_verdict : (words : List ℕ) (v u : Option Broken) → IsVerdict words v �
 same_verdict words None None h g = refl
 same_verdict words None (Some b) h g = absurd (h b.trigger b.at b.condition g.broken)
 same_verdict words (Some b) None h g = absurd (g b.trigger b.at b.condition h.broken)
-same_verdict words (Some b) (Some c) h g = ap Some (same_least words b c h g)
+same_verdict words (Some b) (Some c) h g = ap Some (IsLeastBroken-unique words b c h g)
 
 same_told : (input : Option (List ℕ)) (image : Parts) (t u : Transcript) → IsSome input → MayTell input image t
     → MayTell input image u → t ≡ u
@@ -31,11 +31,11 @@ same_told None image t u told h g = cc
 same_told (Some script) image t u told h g =
     let verdict =
     same_verdict image.words h.setting.verdict g.setting.verdict h.is_setting.verdict g.is_setting.verdict in
-    one_transcript image script t u h g verdict
+    IsTranscript-unique image script t u h g verdict
 
 some_told : (input : Option (List ℕ)) (image : Parts) → (t : Transcript) × MayTell input image t
-some_told None image = let (t, is) = some_transcript image [] in (t, ([], is))
-some_told (Some script) image = some_transcript image script
+some_told None image = let (t, is) = IsTranscript-exists image [] in (t, ([], is))
+some_told (Some script) image = IsTranscript-exists image script
 
 Debugs-lawful : (told whole there : Type 0) (input : Option (List ℕ)) (image : Parts) → (told → IsSome input)
     → Lawful told whole there (Debugs input image)

@@ -4,8 +4,8 @@ use Rattle.alpha_image.specs.Parts.{image_spelling}
 use Rattle.alpha_asm.specs.declared.fault.AsmFault.{AsmFault}
 use Rattle.alpha_asm.specs.Program.{Program}
 use Rattle.alpha_asm.specs.Assembled.{assembled}
-use Rattle.alpha_round.proofs.SameImage.{one-image}
-use Rattle.alpha_round.proofs.UnrefusedSources.{some-image}
+use Rattle.alpha_round.proofs.SameImage.{IsSourceOf-unique}
+use Rattle.alpha_round.proofs.UnrefusedSources.{IsSourceOf-exists}
 use Rattle.alpha_cmd.specs.declared.status.Status.TheVariants.{BadSource}
 use Rattle.alpha_cmd.specs.Status.{status_line}
 use Rattle.alpha_cmd.specs.Outcome.{continues, stops}
@@ -13,11 +13,11 @@ use Rattle.alpha_cmd.specs.SourceCommands.Asm.{IsMade, Assembles}
 use Rattle.alpha_cmd.proofs.Lawful.{Lawful, HasOutcome, Faults-lawful}
 
 same_made : (source a b : List ℕ) → IsMade source a → IsMade source b → a ≡ b
-same_made source a b (p, x, s) (q, y, t) = s ∙ (ap image_spelling (one-image source p q x y) ∙ sym t)
+same_made source a b (p, x, s) (q, y, t) = s ∙ (ap image_spelling (IsSourceOf-unique source p q x y) ∙ sym t)
 
 assembles_some : (source : List ℕ) (r : Result Program AsmFault) → assembled source ≡ r → HasOutcome (Assembles source)
 assembles_some source (Ok p) e =
-    let (image, is) = some-image source p e in
+    let (image, is) = IsSourceOf-exists source p e in
     (continues (image_spelling image), (image, is, refl))
 assembles_some source (Err fault) e =
     (stops (BadSource fault) (status_line (BadSource fault)), ((fault, refl, e), refl))

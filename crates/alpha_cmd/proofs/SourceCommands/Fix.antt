@@ -6,17 +6,17 @@ use Rattle.alpha_shadow.specs.declared.broken.Broken.{Broken}
 use Rattle.alpha_asm.specs.declared.fault.AsmFault.{AsmFault}
 use Rattle.alpha_asm.specs.Program.{Program}
 use Rattle.alpha_asm.specs.Assembled.{assembled}
-use Rattle.alpha_round.proofs.SameImage.{one-image}
-use Rattle.alpha_round.proofs.UnrefusedSources.{some-image}
+use Rattle.alpha_round.proofs.SameImage.{IsSourceOf-unique}
+use Rattle.alpha_round.proofs.UnrefusedSources.{IsSourceOf-exists}
 use Rattle.alpha_fix.specs.declared.fault.FixFault.TheVariants as faults
 use Rattle.alpha_fix.specs.Cuts.{AreCuts, NoneAlone}
 use Rattle.alpha_fix.specs.FixedSource.{fixed_source}
 use Rattle.alpha_fix.specs.FixedLines.{fixed_line}
 use Rattle.alpha_fix.specs.Fix.{HasImage, HasCuts, IsFixedSource, IsLeastAlone, Refuses}
 use Rattle.alpha_fix.proofs.BarredCode.{AreCuts-single}
-use Rattle.alpha_fix.proofs.CutExistence.{HasCutOutcome-some, one_alone}
+use Rattle.alpha_fix.proofs.CutExistence.{HasCutOutcome-some, IsLeastAlone-unique}
 use Rattle.alpha_fix.proofs.FixedItems.{fixed_source-no_cuts}
-use Rattle.alpha_fix.proofs.FixedSources.{is_one}
+use Rattle.alpha_fix.proofs.FixedSources.{IsFixedSource-unique}
 use Rattle.alpha_cmd.specs.declared.status.Status.{Status}
 use Rattle.alpha_cmd.specs.declared.status.Status.TheVariants.{BadSource, Unfixable, FixedLine, Far}
 use Rattle.alpha_cmd.specs.Status.{class_of, status_line, unfixable_line}
@@ -27,7 +27,7 @@ use Rattle.alpha_cmd.proofs.Lawful.{Lawful, HasOutcome, IsRefusal, Either-single
 -- ---- a source has one image, and that one list of cuts
 
 same_image : (source : List ℕ) (p q : Parts) → HasImage source p → HasImage source q → p ≡ q
-same_image source p q h g = one-image source p q (h.good, h.assembles) (g.good, g.assembles)
+same_image source p q h g = IsSourceOf-unique source p q (h.good, h.assembles) (g.good, g.assembles)
 
 same_cuts : (source : List ℕ) (p q : Parts) (a b : List ℕ) → HasCuts source p a → HasCuts source q b → a ≡ b
 same_cuts source p q a b h g =
@@ -50,7 +50,8 @@ same_unfixable : (source : List ℕ) (s t : Status) (l m : List ℕ) → IsUnfix
     → (s ≡ t) × (l ≡ m)
 same_unfixable source s t l m (p, h, (b, is, (least, line))) (q, g, (c, also, (most, text))) =
     let images = same_image source p q h g in
-    let same = one_alone q.words b c (subst (λ (image : Parts). IsLeastAlone image.words b) images least) most in (
+    let same =
+    IsLeastAlone-unique q.words b c (subst (λ (image : Parts). IsLeastAlone image.words b) images least) most in (
       is ∙ (ap Unfixable same ∙ sym also),
       line
           ∙ (ap (λ (image : Parts). unfixable_line b image.code_base) images
@@ -132,7 +133,7 @@ module _ (source : List ℕ) (image : Parts) (cuts : List ℕ) (has : HasCuts so
   far_some : cuts ≢ [] → fixed_line source ≡ None → (r : Result Program AsmFault)
       → assembled (fixed_source source cuts) ≡ r → HasOutcome (Fixes source)
   far_some some free (Ok program) e =
-      let (fixed, is) = some-image (fixed_source source cuts) program e in
+      let (fixed, is) = IsSourceOf-exists (fixed_source source cuts) program e in
       text_some (inr free) fixed (record { good = is.0; assembles = is.1 })
   far_some some free (Err fault) e = (
     stops (Far fault) (status_line (Far fault)),
@@ -161,7 +162,7 @@ image_some source image is =
 
 fixes_some : (source : List ℕ) (r : Result Program AsmFault) → assembled source ≡ r → HasOutcome (Fixes source)
 fixes_some source (Ok program) e =
-    let (image, is) = some-image source program e in
+    let (image, is) = IsSourceOf-exists source program e in
     image_some source image (record { good = is.0; assembles = is.1 })
 fixes_some source (Err fault) e =
     (stops (BadSource fault) (status_line (BadSource fault)), inr (inl (fault, refl, e), refl))
@@ -183,7 +184,7 @@ pub Fixes-lawful : (told whole there : Type 0) (source : List ℕ) → Lawful to
 Fixes-lawful told whole there source = record {
   single =
       λ h. Either-single (IsFixedSource source) (Unfixes source)
-      (record { good = is_one source; why = same_reason source; apart = fixed_apart source });
+      (record { good = IsFixedSource-unique source; why = same_reason source; apart = fixed_apart source });
   some = λ h. fixes_some source (assembled source) refl;
   plain = unfixes_plain there source;
 }

@@ -1,5 +1,6 @@
 use Rattle.std.proofs.Common.{◌≡◌, length, refl, ◌∙◌, rules}
-use Rattle.alpha_asm.proofs.PassUnderway.{PassUnderway-start, pass-continues, ends_stands, ends_taken, kinds_go_on}
+use Rattle.alpha_asm.proofs.PassUnderway.{PassUnderway-start, PassUnderway-next_line, PassUnderway-end_simulates}
+use Rattle.alpha_asm.proofs.PassUnderway.{PassUnderway-end_unrefused, kinds_go_on}
 use Rattle.alpha_asm.proofs.PassUnderway.{kinds_end}
 use Rattle.alpha_asm.proofs.assembler.read_lines.Goals as goal
 
@@ -16,7 +17,7 @@ loop-rest-init c = record {
 pub loop-rest-preserved : goal.loop-rest-preserved
 loop-rest-preserved c = record {
   pass =
-      pass-continues c.args.kind c.args.source.now c.loop-rest.rest.now c.first-line.result.text.now
+      PassUnderway-next_line c.args.kind c.args.source.now c.loop-rest.rest.now c.first-line.result.text.now
       c.first-line.result.rest.now c.loop-rest.pass c.take_line.new.self
       c.loop-rest.invariant.pass c.first-line.ensures.lines c.first-line.ensures.shorter
       c.in_ok-take_line.ensures.taken c.in_ok-take_line.ensures.ok c.in_ok-take_line.ensures.bounded
@@ -30,12 +31,14 @@ loop-rest-preserved c = record {
 
 pub returns-clause-stands : goal.returns-clause-stands
 returns-clause-stands c =
-    ends_stands c.args.kind c.args.source.now c.loop-rest.rest.now c.loop-rest.pass c.loop-rest.invariant.pass
+    PassUnderway-end_simulates c.args.kind c.args.source.now c.loop-rest.rest.now c.loop-rest.pass
+    c.loop-rest.invariant.pass
     (search rules)
 
 pub returns-clause-taken : goal.returns-clause-taken
 returns-clause-taken c =
-    ends_taken c.args.kind c.args.source.now c.loop-rest.rest.now c.loop-rest.pass c.loop-rest.invariant.pass
+    PassUnderway-end_unrefused c.args.kind c.args.source.now c.loop-rest.rest.now c.loop-rest.pass
+    c.loop-rest.invariant.pass
     (search rules)
 
 pub returns-clause-kinds : goal.returns-clause-kinds

@@ -4,16 +4,18 @@ use Rattle.alpha_asm.specs.Layout.{first}
 use Rattle.alpha_asm.specs.Program.{undefined_line, out_of_range_line}
 use Rattle.alpha_asm.specs.Patches.{entry_view, fix_of, names_of, code_after, bytes_after}
 use Rattle.alpha_asm.specs.declared.fault.AsmFault.TheVariants as faults
-use Rattle.alpha_asm.proofs.FinishedProgram.{known_with, known-so, undefined-so, PassSimulates-Finishes, Sound-IsWhole}
+use Rattle.alpha_asm.proofs.FinishedProgram.{known_with, known_addresses-so, undefined_line-first}
+use Rattle.alpha_asm.proofs.FinishedProgram.{PassSimulates-Finishes, Sound-IsWhole}
 use Rattle.alpha_asm.proofs.program.finish.Goals as goal
 
 pub returns-clause-undefined : goal.returns-clause-undefined
 returns-clause-undefined c = λ other is s.
     let k = known_with c.unwrap_or.result c.deref.result.now c.args.pass in
-    let e = known-so is c.args.pass c.unwrap_or-base.result c.unwrap_or.result c.deref.result.now s
+    let e = known_addresses-so is c.args.pass c.unwrap_or-base.result c.unwrap_or.result c.deref.result.now s
     c.unwrap_or-base.ensures c.unwrap_or.ensures (c.deref.ensures.value ∙ c.in_ok-segments.ensures) in
     ap (option_map faults.Undefined)
-    (undefined-so is c.args.pass k s e ∙ ap (λ l. first (undefined_line k) (names_of l)) (sym c.deref-2.ensures.value))
+    (undefined_line-first is c.args.pass k s e
+    ∙ ap (λ l. first (undefined_line k) (names_of l)) (sym c.deref-2.ensures.value))
     ∙ c.in-Err.ensures.undefined
 
 pub returns-in-Ok-clause-whole : goal.returns-in-Ok-clause-whole
@@ -31,7 +33,7 @@ returns-in-Ok-clause-whole c =
 pub returns-in-Ok-clause-ok : goal.returns-in-Ok-clause-ok
 returns-in-Ok-clause-ok c = λ is s.
     let k = known_with c.unwrap_or.result c.deref.result.now c.args.pass in
-    let e = known-so is c.args.pass c.unwrap_or-base.result c.unwrap_or.result c.deref.result.now s
+    let e = known_addresses-so is c.args.pass c.unwrap_or-base.result c.unwrap_or.result c.deref.result.now s
     c.unwrap_or-base.ensures c.unwrap_or.ensures (c.deref.ensures.value ∙ c.in_ok-segments.ensures) in
     PassSimulates-Finishes is c.args.pass (entry_view c.args.entry.now) k c.unwrap_or-base.result _ s e
     (ap (λ l. first (undefined_line k) (names_of l)) (sym c.deref-2.ensures.value) ∙ c.in-Ok.ensures.defined)

@@ -23,9 +23,9 @@ use Rattle.alpha_cmd.specs.Replied.{Replies}
 use Rattle.alpha_cmd.specs.Restarts.{Restarts}
 use Rattle.alpha_cmd.specs.ToldRun.{RanTold}
 use Rattle.alpha_cmd.proofs.JournalStatus.{journal_status-no_end}
-use Rattle.alpha_cmd.proofs.EndStatuses.{memory_unended, run_end_class}
+use Rattle.alpha_cmd.proofs.EndStatuses.{HasEnded-not_NoMemory, IsRunEnd-HasEnded}
 use Rattle.alpha_cmd.proofs.InputLeft.{untouched_input}
-use Rattle.alpha_cmd.proofs.EndsWhere.{failed_ends}
+use Rattle.alpha_cmd.proofs.EndsWhere.{EndsAsRun-fails_always}
 use Rattle.alpha_cmd.proofs.entry.alpha_main.Goals as goal
 
 pub returns-in-Ok : goal.returns-in-Ok
@@ -88,16 +88,16 @@ returns-in-Err g c =
       found = λ options choices file lost asks e. cc;
       script = λ file asks. quiet;
       runs = λ command asks. record {
-        shows = λ ends. absurd (memory_unended ends);
-        ends = failed_ends command NoMemory _ (inl refl);
+        shows = λ ends. absurd (HasEnded-not_NoMemory ends);
+        ends = EndsAsRun-fails_always command NoMemory _ (inl refl);
       };
       ran = λ file plain. (
         λ is. record {
-          shows = λ ends. absurd (memory_unended (run_end_class NoMemory ends));
+          shows = λ ends. absurd (HasEnded-not_NoMemory (IsRunEnd-HasEnded NoMemory ends));
           ends = λ image good has read. inr (inl refl);
         },
         λ is. record {
-          shows = λ ends. absurd (memory_unended (run_end_class NoMemory ends));
+          shows = λ ends. absurd (HasEnded-not_NoMemory (IsRunEnd-HasEnded NoMemory ends));
           ends = λ image good accepted read. inr (inl refl);
         },
       );

@@ -5,12 +5,12 @@ use Rattle.alpha_io.proofs.FilePieces.{part-not_whole}
 use Rattle.alpha_image.specs.Parts.{image_spelling}
 use Rattle.alpha_cmd.specs.declared.status.Status.TheVariants.{NoMemory}
 use Rattle.alpha_cmd.specs.declared.stop.Stop.TheVariants.{OfStatus}
-use Rattle.alpha_cmd.proofs.EndsWhere.{first_taken, image_taken}
+use Rattle.alpha_cmd.proofs.EndsWhere.{first_taken, image_spelling-memory_refusal}
 use Rattle.alpha_cmd.proofs.image.load.Goals as goal
 
 pub returns-in-Err-clause-whole : goal.returns-in-Err-clause-whole
 returns-in-Err-clause-whole g c = λ image good read.
-    image_taken (g.H.Shelf.replies c.args.shelf.now)
+    image_spelling-memory_refusal (g.H.Shelf.replies c.args.shelf.now)
     (g.H.Shelf.replies c.read_file.new.shelf) c.args.name.now c.in_ok-bytes.bytes.items image c.in-Err.status
     c.in_ok-bytes.ensures.read good read c.in-Err.ensures.refused
 

@@ -6,9 +6,9 @@ use Rattle.alpha_cmd.specs.Commands.Imprecise.{Planned, RunsImprecise, kind, pla
 use Rattle.alpha_cmd.specs.Form.{needs_files_and_input}
 use Rattle.alpha_cmd.proofs.EffectsAfterRead.{does_after, does_stop}
 use Rattle.alpha_cmd.proofs.Commands.Imprecise.{planned_good, planned_plain}
-use Rattle.alpha_cmd.proofs.EndStatuses.{stopped_unended}
-use Rattle.alpha_cmd.proofs.RunsOnReplies.{plan_ran}
-use Rattle.alpha_cmd.proofs.EndsWhere.{memory_fails}
+use Rattle.alpha_cmd.proofs.EndStatuses.{HasEnded-not_stopped}
+use Rattle.alpha_cmd.proofs.RunsOnReplies.{IfOk-ReadsPlan}
+use Rattle.alpha_cmd.proofs.EndsWhere.{SaysStop-memory_FailsOnTheWay}
 use Rattle.alpha_cmd.proofs.imprecise.imprecise.Goals as goal
 
 pub returns-in-Ok-clause-does : goal.returns-in-Ok-clause-does
@@ -41,7 +41,7 @@ returns-in-Ok-clause-ran g c = λ ends.
     let plan = plan_in c.in-Ok.begun in
     let planned = c.in-Ok.ensures.stage.ok in
     let may = planned_good a.force (origin_of a.choices) a.file.now (g.H.Shelf.files old.shelf) plan planned in
-    plan_ran g.H.Shelf old.shelf c.prepare.new.shelf new.shelf a.file.now
+    IfOk-ReadsPlan g.H.Shelf old.shelf c.prepare.new.shelf new.shelf a.file.now
     (origin_of a.choices) a.force plan c.run_from_start.result
     (λ p decision. DecidesPlan a.options a.force p decision (drawn_in g.S.Source old.input new.input)
     (sink_change g.K.Sink old.out new.out) (sink_change g.N.Sink old.notes new.notes))
@@ -51,7 +51,7 @@ pub returns-in-Err-clause-ran : goal.returns-in-Err-clause-ran
 returns-in-Err-clause-ran g c = λ ends.
     let a = c.args.asked in
     let files = g.H.Shelf.files c.args.devices.now.shelf in
-    absurd (stopped_unended (Planned (origin_of a.choices) a.force a.file.now files) _
+    absurd (HasEnded-not_stopped (Planned (origin_of a.choices) a.force a.file.now files) _
     (planned_plain (origin_of a.choices) a.force a.file.now files) c.in-Err.stop c.of_stop.result
     c.of_stop.ensures c.in-Err.ensures.stage.refused ends)
 
@@ -63,5 +63,5 @@ returns-in-Ok-clause-ends g c = λ plan accepted read.
 
 pub returns-in-Err-clause-ends : goal.returns-in-Err-clause-ends
 returns-in-Err-clause-ends g c = λ plan accepted read.
-    memory_fails _ c.in-Err.stop c.of_stop.result c.of_stop.ensures
+    SaysStop-memory_FailsOnTheWay _ c.in-Err.stop c.of_stop.result c.of_stop.ensures
     (c.in-Err.ensures.whole plan accepted read)

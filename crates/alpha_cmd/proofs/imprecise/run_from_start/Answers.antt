@@ -2,13 +2,13 @@ use Rattle.std.proofs.Common.{ℕ, Some, refl, sym, ap, inl}
 use Rattle.alpha_io.specs.SinkChange.{sink_change}
 use Rattle.alpha_seq.specs.Devices.{drawn}
 use Rattle.alpha_imprecise.specs.Run.{seen}
-use Rattle.alpha_run.proofs.ObservedSteps.{end_of_fed, end_of_cut}
+use Rattle.alpha_run.proofs.ObservedSteps.{Feeds-LeavesEnd, Feeds-LeavesEnd_cut_short}
 use Rattle.alpha_run.proofs.ImpreciseShown.{whole_run-ImpreciseRanAs}
 use Rattle.alpha_cmd.specs.AnswerBy.{world}
 use Rattle.alpha_cmd.specs.Chooser.{ahead_in}
 use Rattle.alpha_cmd.specs.Commands.Imprecise.{on, plan_in}
 use Rattle.alpha_cmd.proofs.StreamedWrites.{does_cut}
-use Rattle.alpha_cmd.proofs.EndStatuses.{cut_unended}
+use Rattle.alpha_cmd.proofs.EndStatuses.{HasEnded-not_cut_short}
 use Rattle.alpha_cmd.proofs.ImpreciseEnds.{may_alone}
 use Rattle.alpha_cmd.proofs.ImpreciseRan.{ran_shows, ran_whole, made_by_words, cut_begins, cut_fronts}
 use Rattle.alpha_cmd.proofs.EndsWhere.{cut_fails, plan_ends}
@@ -30,7 +30,7 @@ returns-in-Ok-clause-does g c = λ force may.
     (sink_change g.N.Sink old.notes new.notes) w refl force c.drawn.result
     (ap (λ (n : ℕ). Some n) c.requires.none) (ap (λ (n : ℕ). Some n) (sym c.drawn.ensures)) c.drawn.type_inv
     (may_alone force (plan_in begun) may))
-    w.ran.same (end_of_fed input (seen w.ran.steps) w.ran.fed)
+    w.ran.same (Feeds-LeavesEnd input (seen w.ran.steps) w.ran.fed)
 
 pub returns-in-Err-clause-does : goal.returns-in-Err-clause-does
 returns-in-Err-clause-does g c = λ force may.
@@ -48,7 +48,8 @@ returns-in-Err-clause-does g c = λ force may.
     (world g.H.Shelf g.S.Source old.shelf old.input) out notes
     (cut_begins c.args.options begun.wild ahead c.requires.completion c.requires.fresh force c.in-Err.fault _ _ input
     out notes cut refl (may_alone force (plan_in begun) may) input.old.left refl))
-    c.of_device_fault.ensures cut.cause (end_of_cut input cut.left (seen cut.steps) cut.fed cut.leaves_end)
+    c.of_device_fault.ensures cut.cause
+    (Feeds-LeavesEnd_cut_short input cut.left (seen cut.steps) cut.fed cut.leaves_end)
 
 pub returns-in-Ok-clause-ran : goal.returns-in-Ok-clause-ran
 returns-in-Ok-clause-ran g c = λ force may ends.
@@ -64,7 +65,8 @@ returns-in-Ok-clause-ran g c = λ force may ends.
 
 pub returns-in-Err-clause-ran : goal.returns-in-Err-clause-ran
 returns-in-Err-clause-ran g c =
-    λ force may ends. absurd (cut_unended c.in-Err.fault c.of_device_fault.result c.of_device_fault.ensures ends)
+    λ force may ends.
+    absurd (HasEnded-not_cut_short c.in-Err.fault c.of_device_fault.result c.of_device_fault.ensures ends)
 
 pub returns-in-Ok-clause-ends : goal.returns-in-Ok-clause-ends
 returns-in-Ok-clause-ends g c = λ force may.
@@ -82,4 +84,5 @@ returns-in-Ok-clause-ends g c = λ force may.
     c.after_run.result c.after_run.ensures))
 
 pub returns-in-Err-clause-ends : goal.returns-in-Err-clause-ends
-returns-in-Err-clause-ends g c = λ force may. cut_fails _ c.in-Err.fault c.of_device_fault.result c.of_device_fault.ensures
+returns-in-Err-clause-ends g c =
+    λ force may. cut_fails _ c.in-Err.fault c.of_device_fault.result c.of_device_fault.ensures

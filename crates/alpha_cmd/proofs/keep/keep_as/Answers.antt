@@ -12,7 +12,7 @@ use Rattle.alpha_cmd.specs.Keeping.{AttemptsKeep}
 use Rattle.alpha_cmd.specs.Kept.{nothing, file, spoilt}
 use Rattle.alpha_cmd.specs.Outcome.{continues, stops}
 use Rattle.alpha_cmd.specs.Status.{status_line}
-use Rattle.alpha_cmd.proofs.StageLaws.{taken_or_not}
+use Rattle.alpha_cmd.proofs.StageLaws.{Refuses-decided}
 use Rattle.alpha_cmd.proofs.keep.keep_as.Goals as goal
 
 pub returns-in-Ok-clause-tried : goal.returns-in-Ok-clause-tried
@@ -68,7 +68,7 @@ returns-in-Err-clause-tried g c = λ input.
       c.in-Err.ensures.refused h,
     ) in
     ⊎_elim untaken (λ (fits : refusal → ⊥). ⊎_elim (failed fits) untaken c.in-Err.ensures.cause.err)
-    (taken_or_not w.files (w.takes out (length bytes)))
+    (Refuses-decided w.files (w.takes out (length bytes)))
 
 pub returns-in-Err-clause-files : goal.returns-in-Err-clause-files
 returns-in-Err-clause-files g c =

@@ -5,14 +5,15 @@ use Rattle.alpha_cmd.specs.Form.{keeps_last, needs_files}
 use Rattle.alpha_cmd.specs.Keeping.{KeepsAs}
 use Rattle.alpha_cmd.proofs.EffectsAfterRead.{does_stop}
 use Rattle.alpha_cmd.proofs.Commands.Link.{makes_plain}
-use Rattle.alpha_cmd.proofs.StageEffects.{does_make}
-use Rattle.alpha_cmd.proofs.StageLaws.{stopped_undone}
+use Rattle.alpha_cmd.proofs.StageEffects.{CommandEffect-making}
+use Rattle.alpha_cmd.proofs.StageLaws.{SaysStop-not_done}
 use Rattle.alpha_cmd.proofs.link.link.Goals as goal
 
 pub returns-in-Ok-clause-does : goal.returns-in-Ok-clause-does
 returns-in-Ok-clause-does g c =
     let names = map (λ name. name.now) c.args.files.now in
-    does_make g.H.Shelf g.S.Source g.K.Sink g.N.Sink c.args.devices.now c.read_and_link.new.shelf c.keep_as.new.shelf
+    CommandEffect-making g.H.Shelf g.S.Source g.K.Sink g.N.Sink c.args.devices.now c.read_and_link.new.shelf
+    c.keep_as.new.shelf
     (λ w. LinksFiles w.files c.args.entry.now names)
     c.args.out.now c.in-Ok.bytes.items c.as_slice.result.now c.keep_as.result _
     (λ e. cc) c.in-Ok.ensures.stage.ok c.in-Ok.ensures.stage.shelf c.as_slice.ensures.value
@@ -44,6 +45,6 @@ pub returns-in-Err-clause-kept : goal.returns-in-Err-clause-kept
 returns-in-Err-clause-kept g c = λ done.
     let names = map (λ name. name.now) c.args.files.now in
     let files = g.H.Shelf.files c.args.devices.now.shelf in
-    absurd (stopped_undone (LinksFiles files c.args.entry.now names) _
+    absurd (SaysStop-not_done (LinksFiles files c.args.entry.now names) _
     (makes_plain files c.args.entry.now names) c.in-Err.stop c.of_stop.result c.of_stop.ensures
     c.in-Err.ensures.stage.refused done)

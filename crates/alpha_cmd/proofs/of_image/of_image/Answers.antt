@@ -7,10 +7,10 @@ use Rattle.alpha_cmd.specs.Form.{needs_by}
 use Rattle.alpha_cmd.specs.OfImage.{Answers, kind}
 use Rattle.alpha_cmd.specs.RunsAsked.{DecidesOf}
 use Rattle.alpha_cmd.proofs.EffectsAfterRead.{does_after, does_stop}
-use Rattle.alpha_cmd.proofs.EndsWhere.{failed_of, memory_said}
-use Rattle.alpha_cmd.proofs.EndStatuses.{stopped_unended}
-use Rattle.alpha_cmd.proofs.RunsOnReplies.{image_ran}
-use Rattle.alpha_cmd.proofs.StageLaws.{stopped_undone, image_plain}
+use Rattle.alpha_cmd.proofs.EndsWhere.{EndsOf-fails_always, memory_said}
+use Rattle.alpha_cmd.proofs.EndStatuses.{HasEnded-not_stopped}
+use Rattle.alpha_cmd.proofs.RunsOnReplies.{IfOk-ReadsImage}
+use Rattle.alpha_cmd.proofs.StageLaws.{SaysStop-not_done, image_plain}
 use Rattle.alpha_cmd.proofs.InputLeft.{untouched_input}
 use Rattle.alpha_cmd.proofs.of_image.of_image.Goals as goal
 
@@ -47,7 +47,7 @@ returns-in-Ok-clause-checked g c = λ is done.
 pub returns-in-Err-clause-checked : goal.returns-in-Err-clause-checked
 returns-in-Err-clause-checked g c = λ is done.
     let files = g.H.Shelf.files c.args.devices.now.shelf in
-    absurd (stopped_undone (ImageOf files c.args.file.now) _
+    absurd (SaysStop-not_done (ImageOf files c.args.file.now) _
     (image_plain files c.args.file.now) c.in-Err.stop c.of_stop.result c.of_stop.ensures
     c.in-Err.ensures.stage.refused done)
 
@@ -55,7 +55,7 @@ pub returns-in-Ok-clause-ran : goal.returns-in-Ok-clause-ran
 returns-in-Ok-clause-ran g c = λ ends.
     let old = c.args.devices.now in
     let new = c.on_image.new.devices in
-    image_ran g.H.Shelf old.shelf c.load.new.shelf new.shelf c.args.file.now c.in-Ok.image c.on_image.result
+    IfOk-ReadsImage g.H.Shelf old.shelf c.load.new.shelf new.shelf c.args.file.now c.in-Ok.image c.on_image.result
     (λ image decision. DecidesOf c.args.command image decision (drawn g.S.Source old.input new.input)
     (sink_change g.K.Sink old.out new.out) (sink_change g.N.Sink old.notes new.notes))
     c.in-Ok.ensures.read c.in-Ok.ensures.stage.ok c.on_image.ensures.shelf (c.on_image.ensures.ran ends)
@@ -63,7 +63,7 @@ returns-in-Ok-clause-ran g c = λ ends.
 pub returns-in-Err-clause-ran : goal.returns-in-Err-clause-ran
 returns-in-Err-clause-ran g c = λ ends.
     let files = g.H.Shelf.files c.args.devices.now.shelf in
-    absurd (stopped_unended (ImageOf files c.args.file.now) _
+    absurd (HasEnded-not_stopped (ImageOf files c.args.file.now) _
     (image_plain files c.args.file.now) c.in-Err.stop c.of_stop.result c.of_stop.ensures
     c.in-Err.ensures.stage.refused ends)
 
@@ -72,5 +72,5 @@ returns-in-Ok-clause-ends g c = λ image good read. c.on_image.ensures.ends
 
 pub returns-in-Err-clause-ends : goal.returns-in-Err-clause-ends
 returns-in-Err-clause-ends g c = λ image good read.
-    failed_of c.args.command c.of_stop.result.status
+    EndsOf-fails_always c.args.command c.of_stop.result.status
     (inl (memory_said c.in-Err.stop c.of_stop.result c.of_stop.ensures (c.in-Err.ensures.whole image good read)))

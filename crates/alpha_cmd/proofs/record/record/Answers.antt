@@ -11,10 +11,10 @@ use Rattle.alpha_cmd.specs.Form.{needs_files_and_input}
 use Rattle.alpha_cmd.specs.RecordRan.{DecidesRecord}
 use Rattle.alpha_cmd.proofs.EffectsAfterRead.{does_after, does_stop}
 use Rattle.alpha_cmd.proofs.StageEffects.{shelf_call}
-use Rattle.alpha_cmd.proofs.JournalStatus.{stopped_no_end}
+use Rattle.alpha_cmd.proofs.JournalStatus.{StopsBy-not_imprecise_status}
 use Rattle.alpha_cmd.proofs.Commands.Imprecise.{planned_good, planned_plain}
-use Rattle.alpha_cmd.proofs.EndStatuses.{stopped_unended}
-use Rattle.alpha_cmd.proofs.RunsOnReplies.{record_ran}
+use Rattle.alpha_cmd.proofs.EndStatuses.{HasEnded-not_stopped}
+use Rattle.alpha_cmd.proofs.RunsOnReplies.{IfOk-ReadsAndKeeps}
 use Rattle.alpha_cmd.proofs.record.record.Goals as goal
 
 pub returns-in-Ok : goal.returns-in-Ok
@@ -35,7 +35,8 @@ returns-in-Ok g c =
       ran = λ ends.
           let old = c.args.devices.now in
           let new = c.record_from_start.new.devices in
-          record_ran g.H.Shelf old.shelf c.prepare.new.shelf new.shelf a.file.now name (origin_of a.choices) a.force
+          IfOk-ReadsAndKeeps g.H.Shelf old.shelf c.prepare.new.shelf new.shelf a.file.now name
+          (origin_of a.choices) a.force
           plan c.record_from_start.result
           (λ p journal decision. DecidesRecord a.options a.force p journal decision
           (drawn_in g.S.Source old.input new.input) (sink_change g.K.Sink old.out new.out)
@@ -56,11 +57,11 @@ returns-in-Err g c =
           (Planned drawn a.force a.file.now) (Records a.options a.force name)
           needs_files_and_input (kind a.force name) c.of_stop.result c.in-Err.stop c.of_stop.ensures
           c.in-Err.ensures.stage;
-      ran = λ ends. absurd (stopped_unended (Planned drawn a.force a.file.now did.shelf.old) _
+      ran = λ ends. absurd (HasEnded-not_stopped (Planned drawn a.force a.file.now did.shelf.old) _
           (planned_plain drawn a.force a.file.now did.shelf.old) c.in-Err.stop c.of_stop.result c.of_stop.ensures
           c.in-Err.ensures.stage.refused ends);
       keeps = λ end lost n is.
-          absurd (stopped_no_end a.options drawn a.force a.file.now name (told did)
+          absurd (StopsBy-not_imprecise_status a.options drawn a.force a.file.now name (told did)
           (Faulted did.shelf.before did.shelf.now) end lost n c.in-Err.stop
           (sym (ap (λ (x : Answer). x.status) (c.of_stop.ensures None)) ∙ is) c.in-Err.ensures.stage.refused);
     }

@@ -12,14 +12,16 @@ use Rattle.alpha_cmd.specs.Ends.{status_in}
 use Rattle.alpha_cmd.specs.RecordRan.{DecidesRecord}
 use Rattle.alpha_cmd.proofs.Commands.Record.{has_of}
 use Rattle.alpha_cmd.proofs.JournalKept.{kept_does}
-use Rattle.alpha_cmd.proofs.JournalStatus.{kept_keeps, over_no_end, over_ran}
+use Rattle.alpha_cmd.proofs.JournalStatus.{kept_keeps, IsOver-not_imprecise_status, IsOver-no_imprecise_end}
 use Rattle.alpha_cmd.proofs.record.record_from_start.Goals as goal
 
 pub returns-in-Made-clause-does : goal.returns-in-Made-clause-does
 returns-in-Made-clause-does g c = λ force may.
-    kept_does g.H.Shelf g.S.Source g.K.Sink g.N.Sink c.args.devices.now c.run_with_journal.new.devices c.keep_journal.new.shelf
+    kept_does g.H.Shelf g.S.Source g.K.Sink g.N.Sink c.args.devices.now c.run_with_journal.new.devices
+    c.keep_journal.new.shelf
     c.args.options force c.args.name.now
-    (plan_in c.args.begun.now) c.in-Made.journal c.in-Made.decision c.keep_journal.result c.run_with_journal.ensures.shelf
+    (plan_in c.args.begun.now) c.in-Made.journal c.in-Made.decision c.keep_journal.result
+    c.run_with_journal.ensures.shelf
     c.in-Made.ensures.faults_unchanged c.in-Made.ensures.rest
     (c.in-Made.ensures.made force may) (c.keep_journal.ensures.kept, c.keep_journal.ensures.shelf)
 
@@ -49,7 +51,8 @@ returns-in-Over-clause-does g c = λ force may. c.in-Over.ensures.over force c.a
 
 pub returns-in-Over-clause-keeps : goal.returns-in-Over-clause-keeps
 returns-in-Over-clause-keeps g c =
-    λ force may end lost n is. absurd (over_no_end end lost n (status_in c.in-Over.result) is c.in-Over.ensures.status)
+    λ force may end lost n is.
+    absurd (IsOver-not_imprecise_status end lost n (status_in c.in-Over.result) is c.in-Over.ensures.status)
 
 pub returns-in-Made-clause-ran : goal.returns-in-Made-clause-ran
 returns-in-Made-clause-ran g c = λ force may ends is.
@@ -69,4 +72,4 @@ returns-in-Made-clause-ran g c = λ force may ends is.
     )
 
 pub returns-in-Over-clause-ran : goal.returns-in-Over-clause-ran
-returns-in-Over-clause-ran g c = λ force may ends. over_ran c.in-Over.result c.in-Over.ensures.status _
+returns-in-Over-clause-ran g c = λ force may ends. IsOver-no_imprecise_end c.in-Over.result c.in-Over.ensures.status _

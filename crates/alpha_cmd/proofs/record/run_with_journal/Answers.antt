@@ -2,14 +2,14 @@ use Rattle.std.proofs.Common.{◌≡◌, ℕ, Some, refl, sym, ap, inl, inr, ⊎
 use Rattle.alpha_io.specs.SinkChange.{sink_change}
 use Rattle.alpha_seq.specs.Devices.{drawn}
 use Rattle.alpha_imprecise.specs.Run.{seen}
-use Rattle.alpha_run.proofs.ObservedSteps.{end_of_fed, end_of_cut}
+use Rattle.alpha_run.proofs.ObservedSteps.{Feeds-LeavesEnd, Feeds-LeavesEnd_cut_short}
 use Rattle.alpha_cmd.specs.declared.status.Status.TheVariants.{InputFault, SinkFault}
 use Rattle.alpha_cmd.specs.AnswerBy.{world}
 use Rattle.alpha_cmd.specs.Chooser.{ahead_in}
 use Rattle.alpha_cmd.specs.Commands.Imprecise.{plan_in}
 use Rattle.alpha_cmd.specs.Commands.Record.{on, unwatched}
 use Rattle.alpha_cmd.specs.Ends.{status_in}
-use Rattle.alpha_cmd.proofs.CutShort.{cut_status}
+use Rattle.alpha_cmd.proofs.CutShort.{IsCutShort-status}
 use Rattle.alpha_cmd.proofs.StreamedWrites.{does_cut}
 use Rattle.alpha_cmd.proofs.ImpreciseEnds.{may_alone}
 use Rattle.alpha_cmd.proofs.ImpreciseRan.{cut_begins}
@@ -40,7 +40,7 @@ returns-in-Made-clause-faults_unchanged g c = c.in-Made.ensures.made.stops.ran.s
 pub returns-in-Made-clause-rest : goal.returns-in-Made-clause-rest
 returns-in-Made-clause-rest g c =
     let ran = c.in-Made.ensures.made.stops.ran in
-    end_of_fed (drawn g.S.Source c.args.devices.now.input c.make_journal.new.input) (seen ran.steps) ran.fed
+    Feeds-LeavesEnd (drawn g.S.Source c.args.devices.now.input c.make_journal.new.input) (seen ran.steps) ran.fed
 
 pub returns-in-Failed-clause-over : goal.returns-in-Failed-clause-over
 returns-in-Failed-clause-over g c = λ force name may.
@@ -64,14 +64,15 @@ returns-in-Failed-clause-over g c = λ force name may.
     (cut_begins (unwatched c.args.options) from ahead c.requires.completion c.requires.fresh force c.in-Failed.fault _ _
     input out notes cut refl
     (may_alone force (plan_in begun) may) w.input refl))
-    c.of_device_fault.ensures cut.cause (end_of_cut input cut.left (seen cut.steps) cut.fed cut.leaves_end)
+    c.of_device_fault.ensures cut.cause
+    (Feeds-LeavesEnd_cut_short input cut.left (seen cut.steps) cut.fed cut.leaves_end)
 
 pub returns-in-Failed-clause-status : goal.returns-in-Failed-clause-status
 returns-in-Failed-clause-status g c =
     ⊎_elim
     (λ (is : status_in c.of_device_fault.result ≡ InputFault). inr (inl is))
     (λ (is : status_in c.of_device_fault.result ≡ SinkFault). inr (inr (inl is)))
-    (cut_status c.in-Failed.fault c.of_device_fault.result c.of_device_fault.ensures)
+    (IsCutShort-status c.in-Failed.fault c.of_device_fault.result c.of_device_fault.ensures)
 
 pub returns-in-Full-clause-over : goal.returns-in-Full-clause-over
 returns-in-Full-clause-over g c = λ force name may.
@@ -90,7 +91,7 @@ returns-in-Full-clause-over g c = λ force name may.
     (λ bytes told. did.told bytes ahead told refl c.requires.fresh)
     (result_at c.args.options from ahead c.requires.completion c.requires.fresh new.wild _ _ input out notes refl
     did.made))
-    did.made.stops.ran.same (end_of_fed input (seen did.made.stops.ran.steps) did.made.stops.ran.fed)
+    did.made.stops.ran.same (Feeds-LeavesEnd input (seen did.made.stops.ran.steps) did.made.stops.ran.fed)
 
 pub returns-in-NoMemory-clause-over : goal.returns-in-NoMemory-clause-over
 returns-in-NoMemory-clause-over g c = λ force name may.

@@ -8,7 +8,7 @@ use Rattle.alpha_cmd.specs.Form.{needs_files}
 use Rattle.alpha_cmd.specs.Outcome.{Gives, continues}
 use Rattle.alpha_cmd.proofs.EffectsAfterRead.{does_stop}
 use Rattle.alpha_cmd.proofs.Commands.Replay.{run_plain}
-use Rattle.alpha_cmd.proofs.EndStatuses.{stopped_unended}
+use Rattle.alpha_cmd.proofs.EndStatuses.{HasEnded-not_stopped}
 use Rattle.alpha_cmd.proofs.StageEffects.{does_answer}
 use Rattle.alpha_cmd.proofs.replay.replay.Goals as goal
 
@@ -65,6 +65,6 @@ returns-in-Ok-clause-ran g c = λ ends.
 pub returns-in-Err-clause-ran : goal.returns-in-Err-clause-ran
 returns-in-Err-clause-ran g c = λ ends.
     let w = world g.H.Shelf g.S.Source c.args.devices.now.shelf c.args.devices.now.input in
-    absurd (stopped_unended (RunOf w.files c.args.file.now c.args.journal.now) _
+    absurd (HasEnded-not_stopped (RunOf w.files c.args.file.now c.args.journal.now) _
     (run_plain c.args.file.now c.args.journal.now w.files) c.in-Err.stop c.of_stop.result c.of_stop.ensures
     c.in-Err.ensures.stage.refused ends)

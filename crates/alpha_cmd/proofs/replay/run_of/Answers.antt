@@ -2,8 +2,8 @@ use Rattle.std.proofs.Common.{refl, rules}
 use Rattle.std.proofs.lemmas.Result.{err_from_is_err_and}
 use Rattle.alpha_cmd.specs.Commands.Replay.{JournalOf, Plays}
 use Rattle.alpha_cmd.specs.Image.{ImageOf}
-use Rattle.alpha_restart.proofs.Agreement.{accepted_restarts}
-use Rattle.alpha_replay.proofs.ItemEffects.{replayed_is, restarted_is}
+use Rattle.alpha_restart.proofs.Agreement.{IsAccepted-IsRestartable}
+use Rattle.alpha_replay.proofs.ItemEffects.{replayed-IsRun, replayed-IsSequential}
 use Rattle.alpha_cmd.proofs.StageLaws.{IfOk-more}
 use Rattle.alpha_cmd.proofs.EffectsAfterRead.{reads_both, second_stops}
 use Rattle.alpha_cmd.proofs.Commands.Replay.{journal_after, played_by}
@@ -48,7 +48,8 @@ returns-clause-read g c =
       is_journal = c.in_ok-journal.ensures.read.0;
       read_journal = c.in_ok-journal.ensures.read.1;
       replays = replays;
-      runs = replayed_is image p r replays;
-      alike = λ safe. restarted_is image p r replays (accepted_restarts image c.in_ok-image.ensures.read.0 safe);
+      runs = replayed-IsRun image p r replays;
+      alike = λ safe.
+          replayed-IsSequential image p r replays (IsAccepted-IsRestartable image c.in_ok-image.ensures.read.0 safe);
       has = refl;
     }) c.play.ensures.ok

@@ -5,10 +5,10 @@ use Rattle.alpha_cmd.specs.Image.{ImageOf}
 use Rattle.alpha_cmd.specs.Commands.Run.{Runs, kind}
 use Rattle.alpha_cmd.specs.Form.{needs_files_and_input}
 use Rattle.alpha_cmd.proofs.EffectsAfterRead.{does_after, does_stop}
-use Rattle.alpha_cmd.proofs.EndStatuses.{stopped_unended}
-use Rattle.alpha_cmd.proofs.RunsOnReplies.{image_ran}
+use Rattle.alpha_cmd.proofs.EndStatuses.{HasEnded-not_stopped}
+use Rattle.alpha_cmd.proofs.RunsOnReplies.{IfOk-ReadsImage}
 use Rattle.alpha_cmd.proofs.StageLaws.{image_plain}
-use Rattle.alpha_cmd.proofs.EndsWhere.{memory_fails}
+use Rattle.alpha_cmd.proofs.EndsWhere.{SaysStop-memory_FailsOnTheWay}
 use Rattle.alpha_cmd.proofs.run.run.Goals as goal
 
 pub returns-in-Ok-clause-does : goal.returns-in-Ok-clause-does
@@ -29,7 +29,7 @@ pub returns-in-Ok-clause-ran : goal.returns-in-Ok-clause-ran
 returns-in-Ok-clause-ran g c = λ ends.
     let old = c.args.devices.now in
     let new = c.run_image.new.devices in
-    image_ran g.H.Shelf old.shelf c.load.new.shelf new.shelf c.args.file.now c.in-Ok.image c.run_image.result
+    IfOk-ReadsImage g.H.Shelf old.shelf c.load.new.shelf new.shelf c.args.file.now c.in-Ok.image c.run_image.result
     (λ image decision. DecidesRun c.args.options image decision (drawn g.S.Source old.input new.input)
     (sink_change g.K.Sink old.out new.out) (sink_change g.N.Sink old.notes new.notes))
     c.in-Ok.ensures.read c.in-Ok.ensures.stage.ok c.run_image.ensures.shelf (c.run_image.ensures.ran ends)
@@ -37,7 +37,7 @@ returns-in-Ok-clause-ran g c = λ ends.
 pub returns-in-Err-clause-ran : goal.returns-in-Err-clause-ran
 returns-in-Err-clause-ran g c = λ ends.
     let files = g.H.Shelf.files c.args.devices.now.shelf in
-    absurd (stopped_unended (ImageOf files c.args.file.now) _
+    absurd (HasEnded-not_stopped (ImageOf files c.args.file.now) _
     (image_plain files c.args.file.now) c.in-Err.stop c.of_stop.result c.of_stop.ensures
     c.in-Err.ensures.stage.refused ends)
 
@@ -46,4 +46,5 @@ returns-in-Ok-clause-ends g c = λ image good has read. c.run_image.ensures.ends
 
 pub returns-in-Err-clause-ends : goal.returns-in-Err-clause-ends
 returns-in-Err-clause-ends g c = λ image good has read.
-    memory_fails _ c.in-Err.stop c.of_stop.result c.of_stop.ensures (c.in-Err.ensures.whole image good read)
+    SaysStop-memory_FailsOnTheWay _ c.in-Err.stop c.of_stop.result c.of_stop.ensures
+    (c.in-Err.ensures.whole image good read)

@@ -8,7 +8,7 @@ use Rattle.alpha_cmd.specs.Commands.Run.{on}
 use Rattle.alpha_cmd.specs.CommandEffect.{CommandEffect}
 use Rattle.alpha_cmd.specs.RunsAsked.{DecidesRun, WhereEnded}
 use Rattle.alpha_cmd.proofs.StageEffects.{does_not_start}
-use Rattle.alpha_cmd.proofs.EndStatuses.{said_unended}
+use Rattle.alpha_cmd.proofs.EndStatuses.{HasEnded-not_memory_status}
 use Rattle.alpha_cmd.proofs.run.run_image.Goals as goal
 
 pub returns-in-Ok-clause-does : goal.returns-in-Ok-clause-does
@@ -34,7 +34,8 @@ returns-in-Ok-clause-ran g c =
     c.run_machine.ensures.ran
 
 pub returns-in-Err-clause-ran : goal.returns-in-Err-clause-ran
-returns-in-Err-clause-ran g c = λ ends. absurd (said_unended c.of_status.result c.of_status.ensures.status ends)
+returns-in-Err-clause-ran g c =
+    λ ends. absurd (HasEnded-not_memory_status c.of_status.result c.of_status.ensures.status ends)
 
 pub returns-in-Err-clause-ends : goal.returns-in-Err-clause-ends
 returns-in-Err-clause-ends g c = inr (inl c.of_status.ensures.status)

@@ -4,14 +4,15 @@ use Rattle.alpha_cmd.specs.Form.{keeps_last, needs_files}
 use Rattle.alpha_cmd.specs.Keeping.{KeepsAs}
 use Rattle.alpha_cmd.specs.SourceCommands.{MakesOfSource}
 use Rattle.alpha_cmd.proofs.EffectsAfterRead.{does_stop}
-use Rattle.alpha_cmd.proofs.StageEffects.{does_make}
+use Rattle.alpha_cmd.proofs.StageEffects.{CommandEffect-making}
 use Rattle.alpha_cmd.proofs.SourceCommands.{makes_plain}
-use Rattle.alpha_cmd.proofs.StageLaws.{stopped_undone}
+use Rattle.alpha_cmd.proofs.StageLaws.{SaysStop-not_done}
 use Rattle.alpha_cmd.proofs.source_commands.make.Goals as goal
 
 pub returns-in-Ok-clause-does : goal.returns-in-Ok-clause-does
 returns-in-Ok-clause-does g c =
-    does_make g.H.Shelf g.S.Source g.K.Sink g.N.Sink c.args.devices.now c.bytes_of_source.new.shelf c.keep_as.new.shelf
+    CommandEffect-making g.H.Shelf g.S.Source g.K.Sink g.N.Sink c.args.devices.now c.bytes_of_source.new.shelf
+    c.keep_as.new.shelf
     (λ w. MakesOfSource c.args.command w.files c.args.file.now)
     c.args.out.now c.in-Ok.bytes.items c.as_slice.result.now c.keep_as.result _
     (λ e. cc) c.in-Ok.ensures.stage.ok c.in-Ok.ensures.stage.shelf c.as_slice.ensures.value
@@ -41,6 +42,6 @@ returns-in-Err-clause-does g c =
 pub returns-in-Err-clause-kept : goal.returns-in-Err-clause-kept
 returns-in-Err-clause-kept g c = λ done.
     let files = g.H.Shelf.files c.args.devices.now.shelf in
-    absurd (stopped_undone (MakesOfSource c.args.command files c.args.file.now) _
+    absurd (SaysStop-not_done (MakesOfSource c.args.command files c.args.file.now) _
     (makes_plain c.args.command files c.args.file.now) c.in-Err.stop c.of_stop.result c.of_stop.ensures
     c.in-Err.ensures.stage.refused done)

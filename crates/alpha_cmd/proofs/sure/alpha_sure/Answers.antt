@@ -1,6 +1,7 @@
 use Rattle.std.proofs.Common.{◌≢◌, ◌∙◌, sym, ⊎_elim}
 use Rattle.alpha_cmd.specs.declared.status.Status.TheVariants.{SinkFault}
-use Rattle.alpha_cmd.proofs.AttemptedBy.{told_sure, tried_not_input, tried_there, Faulted-none, NoFault-none}
+use Rattle.alpha_cmd.proofs.AttemptedBy.{told_sure, AttemptedBy-not_input, AttemptedBy-not_shelf, Faulted-none}
+use Rattle.alpha_cmd.proofs.AttemptedBy.{NoFault-none}
 use Rattle.alpha_cmd.proofs.sure.alpha_sure.Goals as goal
 
 pub returns-clause-answer : goal.returns-clause-answer
@@ -22,14 +23,15 @@ returns-clause-streams c =
     let calm : c.alpha_top.result ≢ SinkFault =
     λ e. ⊎_elim Faulted-none Faulted-none (c.alpha_top.ensures.part e).failed in
     let ends = c.alpha_top.ensures.whole calm in
-    (λ e. tried_not_input _ _ c.args.words.now _ ends.tried Faulted-none ends.is (sym ends.status_is ∙ e), calm)
+    (λ e. AttemptedBy-not_input _ _ c.args.words.now _ ends.tried Faulted-none ends.is (sym ends.status_is ∙ e), calm)
 
 pub returns-clause-shelf : goal.returns-clause-shelf
 returns-clause-shelf c = λ command asks there e.
     let calm : c.alpha_top.result ≢ SinkFault =
     λ q. ⊎_elim Faulted-none Faulted-none (c.alpha_top.ensures.part q).failed in
     let ends = c.alpha_top.ensures.whole calm in
-    tried_there _ _ c.args.words.now command _ ends.tried Faulted-none asks there ends.is (sym ends.status_is ∙ e)
+    AttemptedBy-not_shelf _ _ c.args.words.now command _ ends.tried Faulted-none asks there ends.is
+    (sym ends.status_is ∙ e)
 
 pub returns-clause-files : goal.returns-clause-files
 returns-clause-files c = c.alpha_top.ensures.files

@@ -6,9 +6,9 @@ use Rattle.alpha_cmd.specs.Asks.{AsksFor}
 use Rattle.alpha_cmd.specs.Call.{Call, called}
 use Rattle.alpha_cmd.specs.RunsAsked.{RunsAsked}
 use Rattle.alpha_cmd.proofs.CallPromises as promised
-use Rattle.alpha_cmd.proofs.EndStatuses.{run_end_class, sink_unended}
-use Rattle.alpha_cmd.proofs.RunsOnReplies.{listed_on, ran_on, runs_on}
-use Rattle.alpha_cmd.proofs.EndsWhere.{delivered_ends, failed_ends}
+use Rattle.alpha_cmd.proofs.EndStatuses.{IsRunEnd-HasEnded, HasEnded-not_SinkFault}
+use Rattle.alpha_cmd.proofs.RunsOnReplies.{RunsAsked-Listed, RunsAsked-Ran, ShowsAsked-call}
+use Rattle.alpha_cmd.proofs.EndsWhere.{EndsAsRun-sink_fault_last, EndsAsRun-fails_always}
 use Rattle.alpha_cmd.proofs.top.alpha_top.Goals as goal
 
 pub deliver-requires : goal.deliver-requires
@@ -36,12 +36,13 @@ returns-in-Ok g c =
       notes = sink_change g.N.Sink old.notes c.deliver.new.notes;
     } in
     let shows =
-    runs_on g.K.Sink g.N.Sink old.out mid.out c.deliver.new.out old.notes mid.notes c.deliver.new.notes words did
+    ShowsAsked-call g.K.Sink g.N.Sink old.out mid.out c.deliver.new.out old.notes mid.notes c.deliver.new.notes words
+    did
     c.in-Ok.decision status is c.deliver.ensures.output
     c.deliver.ensures.notes c.in-Ok.ensures.ran in
     let runs : RunsAsked words status given = λ command asks. record {
       shows = shows command asks;
-      ends = delivered_ends command status decided did.shelf is (c.in-Ok.ensures.ends command asks);
+      ends = EndsAsRun-sink_fault_last command status decided did.shelf is (c.in-Ok.ensures.ends command asks);
     } in
     record {
       whole = promised.CallEnded-EndsWhole how;
@@ -63,8 +64,8 @@ returns-in-Ok g c =
       alike = promised.CallEnded-Alike how;
       ran_told = promised.CallEnded-RanTold how;
       runs = runs;
-      ran = ran_on words status given runs;
-      listed = listed_on words status given runs;
+      ran = RunsAsked-Ran words status given runs;
+      listed = RunsAsked-Listed words status given runs;
       unread = promised.CallEnded-Unread how;
       unread_alike = promised.unread_alike how;
       fixed = promised.CallEnded-Fixes how;
@@ -101,16 +102,16 @@ returns-in-Err g c =
       alike = promised.CallEnded-Alike how;
       ran_told = promised.CallEnded-RanTold how;
       runs = λ command asks. record {
-        shows = λ ends. absurd (sink_unended ends);
-        ends = failed_ends command SinkFault did.shelf (inr refl);
+        shows = λ ends. absurd (HasEnded-not_SinkFault ends);
+        ends = EndsAsRun-fails_always command SinkFault did.shelf (inr refl);
       };
       ran = λ file plain. (
         λ is. record {
-          shows = λ ends. absurd (sink_unended (run_end_class SinkFault ends));
+          shows = λ ends. absurd (HasEnded-not_SinkFault (IsRunEnd-HasEnded SinkFault ends));
           ends = λ image good has read. inr (inr (inr refl));
         },
         λ is. record {
-          shows = λ ends. absurd (sink_unended (run_end_class SinkFault ends));
+          shows = λ ends. absurd (HasEnded-not_SinkFault (IsRunEnd-HasEnded SinkFault ends));
           ends = λ image good accepted read. inr (inr (inr refl));
         },
       );

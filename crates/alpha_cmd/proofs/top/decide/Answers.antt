@@ -16,11 +16,11 @@ use Rattle.alpha_cmd.specs.Promises.{tried_in}
 use Rattle.alpha_cmd.specs.RunsAsked.{DecidesAsked, EndsAsRun}
 use Rattle.alpha_cmd.specs.Replied.{Replied}
 use Rattle.alpha_cmd.proofs.CallEndings.{Leaves-all, OutcomeOrFault-map}
-use Rattle.alpha_cmd.proofs.EndStatuses.{said_unended, words_unended}
+use Rattle.alpha_cmd.proofs.EndStatuses.{HasEnded-not_memory_status, HasEnded-not_BadWords}
 use Rattle.alpha_cmd.proofs.InputLeft.{untouched_input}
 use Rattle.alpha_cmd.proofs.SparesFiles.{SparesFiles-by_outcome}
-use Rattle.alpha_cmd.proofs.AttemptedBy.{asked_tried, kind_is}
-use Rattle.alpha_cmd.proofs.EndsWhere.{failed_ends}
+use Rattle.alpha_cmd.proofs.AttemptedBy.{AttemptedBy-of_command, form_of-kind}
+use Rattle.alpha_cmd.proofs.EndsWhere.{EndsAsRun-fails_always}
 use Rattle.alpha_cmd.proofs.top.decide.Goals as goal
 
 pub returns-in-Ok : goal.returns-in-Ok
@@ -32,7 +32,7 @@ returns-in-Ok g c =
     record {
       tried =
           OutcomeOrFault-map (AttemptIn (form_of command) did) (tried_in c.args.words.now did)
-          (λ t. asked_tried (Faulted did.shelf.before did.shelf.now)
+          (λ t. AttemptedBy-of_command (Faulted did.shelf.before did.shelf.now)
           (Faulted did.input.before did.input.now) c.args.words.now command (told did) t asks)
           did.shelf did.shelf (λ kept h. h) c.perform.result did.input.new.left did.out did.notes does.tried;
       shelf = does.shelf;
@@ -40,11 +40,11 @@ returns-in-Ok g c =
           SparesFiles-by_outcome c.args.words.now command asks did c.perform.result did.input.new.left did.out did.notes
           does.tried
           (subst (λ (k : Kind). SparesBy k (status_in c.perform.result) did.shelf.old did.shelf.new)
-          (kind_is command) does.files);
+          (form_of-kind command) does.files);
       input =
           ⊎_elim (λ (h : c.perform.new.devices.input ≡ c.args.devices.now.input). inl h)
           (λ (h : MayTakeBy (form_of command).kind (status_in c.perform.result)).
-          inr (command, asks, subst (λ (k : Kind). MayTakeBy k (status_in c.perform.result)) (kind_is command) h))
+          inr (command, asks, subst (λ (k : Kind). MayTakeBy k (status_in c.perform.result)) (form_of-kind command) h))
           does.input;
       source = does.source;
       rest = does.rest;
@@ -106,11 +106,12 @@ perform-requires g c = record { blocks = λ n is. asked_blocks c.args.words.now 
 
 pub returns-in-Err-BadWords-clause-ran : goal.returns-in-Err-BadWords-clause-ran
 returns-in-Err-BadWords-clause-ran g c =
-    λ command asks ends. absurd (words_unended c.of_status.result c.of_status.ensures.status ends)
+    λ command asks ends. absurd (HasEnded-not_BadWords c.of_status.result c.of_status.ensures.status ends)
 
 pub returns-in-Err-NoMemory-clause-ran : goal.returns-in-Err-NoMemory-clause-ran
 returns-in-Err-NoMemory-clause-ran g c = λ command asks ends.
-    absurd (said_unended c.of_status-in-Err-NoMemory.result c.of_status-in-Err-NoMemory.ensures.status ends)
+    absurd
+    (HasEnded-not_memory_status c.of_status-in-Err-NoMemory.result c.of_status-in-Err-NoMemory.ensures.status ends)
 
 pub returns-in-Err-BadWords-clause-ends : goal.returns-in-Err-BadWords-clause-ends
 returns-in-Err-BadWords-clause-ends g c = λ command asks.
@@ -119,4 +120,5 @@ returns-in-Err-BadWords-clause-ends g c = λ command asks.
 
 pub returns-in-Err-NoMemory-clause-ends : goal.returns-in-Err-NoMemory-clause-ends
 returns-in-Err-NoMemory-clause-ends g c = λ command asks.
-    failed_ends command c.of_status-in-Err-NoMemory.result.status _ (inl c.of_status-in-Err-NoMemory.ensures.status)
+    EndsAsRun-fails_always command c.of_status-in-Err-NoMemory.result.status _
+    (inl c.of_status-in-Err-NoMemory.ensures.status)

@@ -3,7 +3,7 @@ use Rattle.alpha_io.specs.ShelfChange.{shelf_change}
 use Rattle.alpha_request.specs.Command.{of_image, debug}
 use Rattle.alpha_request.specs.CommandOf.{command_of}
 use Rattle.alpha_cmd.proofs.OfImage.{of_image_replied}
-use Rattle.alpha_cmd.proofs.RunsOnReplies.{other_asked}
+use Rattle.alpha_cmd.proofs.RunsOnReplies.{WhereEnded-other_command}
 use Rattle.alpha_cmd.proofs.top.perform.Goals as goal
 
 pub returns-in-OfImage-clause-script : goal.returns-in-OfImage-clause-script
@@ -43,10 +43,10 @@ pub returns-in-OfImage-clause-ran : goal.returns-in-OfImage-clause-ran
 returns-in-OfImage-clause-ran g c = rw c.in-OfImage.is c.of_image.ensures.ran
 
 pub returns-in-Make-clause-ran : goal.returns-in-Make-clause-ran
-returns-in-Make-clause-ran g c = rw c.in-Make.is (other_asked c.make.result)
+returns-in-Make-clause-ran g c = rw c.in-Make.is (WhereEnded-other_command c.make.result)
 
 pub returns-in-Link-clause-ran : goal.returns-in-Link-clause-ran
-returns-in-Link-clause-ran g c = rw c.in-Link.is (other_asked c.link.result)
+returns-in-Link-clause-ran g c = rw c.in-Link.is (WhereEnded-other_command c.link.result)
 
 pub returns-in-Replay-clause-ran : goal.returns-in-Replay-clause-ran
 returns-in-Replay-clause-ran g c = rw c.in-Replay.is c.replay.ensures.ran
@@ -55,7 +55,7 @@ pub returns-in-Record-clause-ran : goal.returns-in-Record-clause-ran
 returns-in-Record-clause-ran g c = rw c.in-Record.is c.record.ensures.ran
 
 pub returns-in-Trial-clause-ran : goal.returns-in-Trial-clause-ran
-returns-in-Trial-clause-ran g c = rw c.in-Trial.is (other_asked c.trial.result)
+returns-in-Trial-clause-ran g c = rw c.in-Trial.is (WhereEnded-other_command c.trial.result)
 
 pub returns-in-Run-clause-ends : goal.returns-in-Run-clause-ends
 returns-in-Run-clause-ends g c = rw c.in-Run.is c.run.ensures.ends

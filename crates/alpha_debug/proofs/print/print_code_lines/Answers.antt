@@ -1,6 +1,7 @@
 use Rattle.std.proofs.Common.{◌≡◌, ◌<◌, ◌-◌, ◌++◌, ℕ, List, length, min, sym, ap, subst, ◌∙◌, arith}
 use Rattle.alpha_debug.specs.Lines.{rows, code_row}
-use Rattle.alpha_debug.proofs.SinkEffects.{session_OnErr-any, AppendsOutput-both, SinkFailsWith-after, SinkFailsWith-more}
+use Rattle.alpha_debug.proofs.SinkEffects.{session_OnErr-any, AppendsOutput-both, SinkFailsWith-after}
+use Rattle.alpha_debug.proofs.SinkEffects.{SinkFailsWith-more}
 use Rattle.alpha_debug.proofs.RowTexts.{rows-rest, rows-more}
 use Rattle.alpha_debug.specs.OutputChange.{output_change_by, AppendsOutput, SinkFailsWith}
 use Rattle.alpha_debug.proofs.print.print_code_lines.Goals as goal

@@ -3,7 +3,7 @@ use Rattle.alpha_io.specs.SinkChange.{sink_change, Puts}
 use Rattle.alpha_seq.specs.Notes.{register_lines}
 use Rattle.alpha_debug.specs.OutputChange.{output_change, AppendsOutput, SinkFailsWith}
 use Rattle.alpha_debug.proofs.SinkEffects.{session_OnErr-any, SinkFailsWith-more}
-use Rattle.alpha_debug.proofs.BlockContents.{cut-back, AppendsOutput-past, SinkFailsWith-past}
+use Rattle.alpha_debug.proofs.BlockContents.{WritesPrefix-take_old, AppendsOutput-past, SinkFailsWith-past}
 use Rattle.alpha_debug.proofs.print.print_registers.Goals as goal
 
 pub returns-in_err-flush-in-Err-clause-refused : goal.returns-in_err-flush-in-Err-clause-refused
@@ -12,7 +12,7 @@ returns-in_err-flush-in-Err-clause-refused g c =
     let lines = register_lines c.args.regs.now in
     let back : c.truncate.new.self ≡ waited =
     c.truncate.ensures ∙ (ap (λ (n : ℕ). take n c.write_registers.new.to) c.len-waiting.ensures.value
-    ∙ cut-back waited c.write_registers.new.to lines c.in-Err.ensures.prefix) in
+    ∙ WritesPrefix-take_old waited c.write_registers.new.to lines c.in-Err.ensures.prefix) in
     session_OnErr-any c.from_residual.result
     (SinkFailsWith-more (output_change g.K.Sink c.args.out.now waited c.flush.new.out c.flush.new.self) [] lines
     (subst (λ (l : List ℕ). SinkFailsWith (output_change g.K.Sink c.args.out.now l c.flush.new.out c.flush.new.self) [])
@@ -27,7 +27,7 @@ returns-in_ok-flush-in-Err-clause-ok g c =
     let wrote = c.write_registers-in-Err.ensures in
     let back : c.truncate.new.self ≡ waited =
     c.truncate.ensures ∙ (ap (λ (n : ℕ). take n c.write_registers.new.to) c.len-waiting.ensures.value
-    ∙ cut-back waited c.write_registers.new.to lines c.in-Err.ensures.prefix) in
+    ∙ WritesPrefix-take_old waited c.write_registers.new.to lines c.in-Err.ensures.prefix) in
     let first : Puts (sink_change g.K.Sink out c.flush.new.out) waited =
     subst (Puts (sink_change g.K.Sink out c.flush.new.out)) back c.in_ok-flush-in-Err.ensures.ok in
     subst (λ (l : List ℕ).
@@ -44,7 +44,7 @@ returns-in_ok-flush-in-Err-clause-refused g c =
     let wrote = c.write_registers-in-Err.ensures in
     let back : c.truncate.new.self ≡ waited =
     c.truncate.ensures ∙ (ap (λ (n : ℕ). take n c.write_registers.new.to) c.len-waiting.ensures.value
-    ∙ cut-back waited c.write_registers.new.to lines c.in-Err.ensures.prefix) in
+    ∙ WritesPrefix-take_old waited c.write_registers.new.to lines c.in-Err.ensures.prefix) in
     let first : Puts (sink_change g.K.Sink out c.flush.new.out) waited =
     subst (Puts (sink_change g.K.Sink out c.flush.new.out)) back c.in_ok-flush-in-Err.ensures.ok in
     SinkFailsWith-past g.K.Sink out c.flush.new.out c.write_registers-in-Err.new.to waited lines first

@@ -5,8 +5,9 @@ use Rattle.std.proofs.lemmas.Bool.Decides.{nat_tests}
 use Rattle.std.specs.Str.Lines.{strip_carriage_return}
 use Rattle.alpha_debug.specs.Effects.{FeedsBytes, FeedFails, Carries, CarryFails}
 use Rattle.alpha_debug.proofs.SinkEffects.{AppendsOutput-none, session_OnErr-any}
-use Rattle.alpha_debug.proofs.Scripts.{FeedsBytes-line_feed, line_feed-FeedFails, FeedsBytes-other_byte, held_other}
-use Rattle.alpha_debug.proofs.Scripts.{held_more, held_full}
+use Rattle.alpha_debug.proofs.Scripts.{FeedsBytes-line_feed, line_feed-FeedFails, FeedsBytes-other_byte}
+use Rattle.alpha_debug.proofs.Scripts.{IsPendingLine-other_byte}
+use Rattle.alpha_debug.proofs.Scripts.{held_prefix-push, held_prefix-full}
 use Rattle.alpha_debug.proofs.HandedLines.{carries_feed, carry_feed_fails, carries_other}
 use Rattle.alpha_debug.specs.OutputChange.{output_change}
 use Rattle.alpha_debug.proofs.script.feed_byte.Goals as goal
@@ -52,7 +53,7 @@ returns-then-not-is_full-clause-ok g c =
     let room : length held < 1026 = grind (arith, nat_tests) in
     λ begun is_held.
     FeedsBytes-other_byte c.args.byte begun c.push.new.self.items c.args.debugger.now out other is_held.line
-    (held_more c.args.byte begun held c.push.new.self.items is_held.front room c.push.ensures.items)
+    (held_prefix-push c.args.byte begun held c.push.new.self.items is_held.front room c.push.ensures.items)
     (AppendsOutput-none g.K.Sink c.args.out.now c.args.debugger.now.watcher.block)
 
 pub returns-else-not-is_full-clause-ok : goal.returns-else-not-is_full-clause-ok
@@ -64,7 +65,7 @@ returns-else-not-is_full-clause-ok g c =
     let full : length held ≡ 1026 = grind (arith, nat_tests) in
     λ begun is_held.
     FeedsBytes-other_byte c.args.byte begun held c.args.debugger.now out other is_held.line
-    (held_full c.args.byte begun held is_held.front full)
+    (held_prefix-full c.args.byte begun held is_held.front full)
     (AppendsOutput-none g.K.Sink c.args.out.now c.args.debugger.now.watcher.block)
 
 pub returns-in_err-talk-clause-stopped : goal.returns-in_err-talk-clause-stopped
@@ -104,8 +105,8 @@ returns-then-not-is_full-clause-handed g c =
     let room : length held < 1026 = grind (arith, nat_tests) in
     λ begun is_held.
     carries_other g.K.Sink c.args.byte begun c.push.new.self.items c.args.debugger.now c.args.out.now
-    (held_other c.args.byte begun c.push.new.self.items other is_held.line
-    (held_more c.args.byte begun held c.push.new.self.items is_held.front room c.push.ensures.items))
+    (IsPendingLine-other_byte c.args.byte begun c.push.new.self.items other is_held.line
+    (held_prefix-push c.args.byte begun held c.push.new.self.items is_held.front room c.push.ensures.items))
 
 pub returns-else-not-is_full-clause-handed : goal.returns-else-not-is_full-clause-handed
 returns-else-not-is_full-clause-handed g c =
@@ -114,4 +115,5 @@ returns-else-not-is_full-clause-handed g c =
     let full : length held ≡ 1026 = grind (arith, nat_tests) in
     λ begun is_held.
     carries_other g.K.Sink c.args.byte begun held c.args.debugger.now c.args.out.now
-    (held_other c.args.byte begun held other is_held.line (held_full c.args.byte begun held is_held.front full))
+    (IsPendingLine-other_byte c.args.byte begun held other is_held.line
+    (held_prefix-full c.args.byte begun held is_held.front full))

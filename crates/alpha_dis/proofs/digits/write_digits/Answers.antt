@@ -3,7 +3,7 @@ use Rattle.std.proofs.Common.{ap, subst, ◌∙◌, add-one, arith}
 use Rattle.std.specs.Fmt.{digit_glyph}
 use Rattle.std.proofs.lemmas.List.{drop_all, drop-set, drop-set-lt, length-set}
 use Rattle.alpha_dis.proofs.Hexadecimal.{hex_digits_onto, hex_digits_onto-none, hex_digits_onto-more}
-use Rattle.alpha_dis.proofs.Hexadecimal.{hex_digits_onto-last, second_digit, fewer_digits}
+use Rattle.alpha_dis.proofs.Hexadecimal.{hex_digits_onto-last, hex_digits-second_has_room, fewer_digits}
 use Rattle.alpha_dis.proofs.digits.write_digits.Goals as goal
 
 -- what stands from the place on where a digit was written
@@ -35,7 +35,7 @@ loop-rest-preserved c =
     let rest = l.rest / 16 in
     let x = c.digit-in-loop-rest.result in
     let more : 16 ≤ l.rest = c.loop-rest-test.true in
-    let some = second_digit l.at l.rest more l.invariant.within in
+    let some = hex_digits-second_has_room l.at l.rest more l.invariant.within in
     let back : l.at ≡ at + 1 = omega arith in
     let behind : drop (at + 1) (set l.out at x) ≡ drop l.at l.out =
     drop-set-lt (at + 1) l.out at x (omega arith) ∙ ap (λ (k : ℕ). drop k l.out) (sym back) in

@@ -1,4 +1,4 @@
-use Rattle.alpha_fix.proofs.CutSteps.{cuts-continue, next_cut-decreases, ends_cuts}
+use Rattle.alpha_fix.proofs.CutSteps.{CutsUpTo-next, next_cut-decreases, CutsUpTo-AreCuts}
 use Rattle.alpha_fix.proofs.cuts.cuts_of.Goals as goal
 
 pub loop-broken-smaller : goal.loop-broken-smaller
@@ -7,11 +7,11 @@ loop-broken-smaller c =
 
 pub loop-broken-preserved : goal.loop-broken-preserved
 loop-broken-preserved c =
-    cuts-continue c.args.image.now.words c.loop-broken.cuts.items c.push.new.self.items c.loop-broken.from
+    CutsUpTo-next c.args.image.now.words c.loop-broken.cuts.items c.push.new.self.items c.loop-broken.from
     c.in-Some.broken
     c.loop-broken.invariant c.in-Some.ensures c.if-broken.false c.in_ok-push.ensures.items
 
 pub returns-clause-ok : goal.returns-clause-ok
 returns-clause-ok c =
-    ends_cuts c.args.image.now.words c.loop-broken.cuts.items c.loop-broken.from c.loop-broken.invariant
+    CutsUpTo-AreCuts c.args.image.now.words c.loop-broken.cuts.items c.loop-broken.from c.loop-broken.invariant
     (λ trigger at condition since b. c.in_default.ensures trigger at condition since b)

@@ -1,5 +1,5 @@
 use Rattle.std.proofs.Common.{ap, ◌∙◌, drop, length, arith}
-use Rattle.alpha_fix.proofs.CutSteps.{none_from, least_from, IsLeastBroken-within}
+use Rattle.alpha_fix.proofs.CutSteps.{NoneFrom-accepted_suffix, least_from, IsLeastBroken-within}
 use Rattle.alpha_fix.proofs.cuts.first_broken_from.Goals as goal
 
 pub overflow_add-result : goal.overflow_add-result
@@ -20,7 +20,7 @@ overflow_add-result-in-Err c =
 
 pub returns-in-Ok : goal.returns-in-Ok
 returns-in-Ok c =
-    none_from c.args.image.now.words c.from_place.result.code c.args.from c.requires
+    NoneFrom-accepted_suffix c.args.image.now.words c.from_place.result.code c.args.from c.requires
     (c.from_place.ensures.code ∙ ap (drop c.args.from) c.code_of.ensures.code) c.in-Ok.ensures.accepted
 
 pub returns-in-Err : goal.returns-in-Err

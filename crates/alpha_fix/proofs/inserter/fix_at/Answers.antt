@@ -2,16 +2,18 @@ use Rattle.std.proofs.Common.{◌∙◌, arith}
 use Rattle.alpha_asm.specs.Program.{program_of}
 use Rattle.alpha_fix.proofs.FixAnswers.{ok_with, err_with, is_fixed_source, refused_far}
 use Rattle.alpha_fix.proofs.BarrierMarks.{rise-less, cuts_rise}
-use Rattle.alpha_fix.proofs.SourcePrograms.{assembled-first_refused, words_are, code_base_is, text_size}
+use Rattle.alpha_fix.proofs.SourcePrograms.{assembled-first_refused, HasImage-word_count, assembled-code_base}
+use Rattle.alpha_fix.proofs.SourcePrograms.{fixed_source-size_bound}
 use Rattle.alpha_fix.proofs.inserter.fix_at.Goals as goal
 
 pub with_barriers-requires-clause-base : goal.with_barriers-requires-clause-base
 with_barriers-requires-clause-base c =
-    c.requires.base ∙ code_base_is c.args.source.now (program_of c.args.image.now) c.requires.cuts.has_image.assembles
+    c.requires.base
+    ∙ assembled-code_base c.args.source.now (program_of c.args.image.now) c.requires.cuts.has_image.assembles
 
 pub with_barriers-requires-clause-words : goal.with_barriers-requires-clause-words
 with_barriers-requires-clause-words c =
-    c.requires.words ∙ words_are c.args.source.now c.args.image.now c.requires.cuts.has_image
+    c.requires.words ∙ HasImage-word_count c.args.source.now c.args.image.now c.requires.cuts.has_image
 
 pub with_barriers-requires-clause-rise : goal.with_barriers-requires-clause-rise
 with_barriers-requires-clause-rise c =
@@ -24,7 +26,8 @@ with_barriers-requires-clause-taken c =
 
 pub require_image-requires : goal.require_image-requires
 require_image-requires c =
-    text_size c.args.source.now c.args.cuts.now c.in_ok-text.text.items c.args.image.now c.requires.cuts.has_image
+    fixed_source-size_bound c.args.source.now c.args.cuts.now c.in_ok-text.text.items c.args.image.now
+    c.requires.cuts.has_image
     c.in_ok-text.ensures.ok c.requires.size
 
 pub returns-clause-ok : goal.returns-clause-ok

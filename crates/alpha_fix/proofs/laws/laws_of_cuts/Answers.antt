@@ -1,5 +1,5 @@
 use Rattle.alpha_fix.proofs.BarredCode.{barred-IsAccepted, cut-needed, AreCuts-single}
-use Rattle.alpha_fix.proofs.CutExistence.{HasCutOutcome-some, one_alone}
+use Rattle.alpha_fix.proofs.CutExistence.{HasCutOutcome-some, IsLeastAlone-unique}
 use Rattle.alpha_fix.proofs.laws.laws_of_cuts.Goals as goal
 
 pub returns-clause-accepted : goal.returns-clause-accepted
@@ -15,4 +15,4 @@ pub returns-clause-some : goal.returns-clause-some
 returns-clause-some c = HasCutOutcome-some
 
 pub returns-clause-alone : goal.returns-clause-alone
-returns-clause-alone c = one_alone
+returns-clause-alone c = IsLeastAlone-unique

@@ -10,7 +10,7 @@ use Rattle.alpha_image.specs.ImageFault.{form_fault, word_fault}
 use Rattle.alpha_image.specs.Tells.{Tells}
 use Rattle.alpha_image.proofs.ReadSpelling.{parts_with-cut, Refuses-form_fault, first_fault-form}
 use Rattle.alpha_image.proofs.ReadSpelling.{image_spelling-parts_of}
-use Rattle.alpha_image.proofs.ReadSpelling.{cut_behind}
+use Rattle.alpha_image.proofs.ReadSpelling.{code_in-cut_behind_header}
 use Rattle.alpha_image.proofs.read.read_image.Goals as goal
 
 pub returns-in_err-header-clause-fault : goal.returns-in_err-header-clause-fault
@@ -27,7 +27,8 @@ returns-clause-spelled c =
     let n = header_numbers h in
     let ensures = c.in_ok-header.ensures in
     let cut =
-    cut_behind bytes c.front_size.result h.version n (4 * h.words) c.split_at.result.0.now c.split_at.result.1.now
+    code_in-cut_behind_header bytes c.front_size.result h.version n
+    (4 * h.words) c.split_at.result.0.now c.split_at.result.1.now
     c.front_size.ensures.value ensures.version ensures.numbers refl c.split_at.ensures.front c.split_at.ensures.back in
     let parts = parts_with-cut bytes c.split_at.result.0.now c.split_at.result.1.now h.version n ensures.version
     ensures.numbers cut.0 cut.1 in
@@ -45,7 +46,7 @@ returns-clause-fault c =
     let n = header_numbers h in
     let ensures = c.in_ok-header.ensures in
     let code = c.split_at.result.0.now in
-    let cut = cut_behind bytes c.front_size.result h.version n (4 * h.words) code c.split_at.result.1.now
+    let cut = code_in-cut_behind_header bytes c.front_size.result h.version n (4 * h.words) code c.split_at.result.1.now
     c.front_size.ensures.value ensures.version ensures.numbers refl c.split_at.ensures.front c.split_at.ensures.back in
     let none : form_fault bytes ≡ None = ensures.fault in
     let level = ap (λ (m : Numbers). word_fault (numbered_level m.level) (words_of code)) ensures.numbers in

@@ -4,7 +4,7 @@ use Rattle.alpha_table.specs.Decoded.{decoded}
 use Rattle.alpha_image.specs.Reading.{words_of}
 use Rattle.alpha_image.specs.ImageFault.{is_there}
 use Rattle.alpha_image.proofs.CodeWords.{length-words_of, word_fault-first, word_fault-none}
-use Rattle.alpha_image.proofs.CodeInsns.{one_more}
+use Rattle.alpha_image.proofs.CodeInsns.{decoded-next_word}
 use Rattle.alpha_image.proofs.words.read_words.Goals as goal
 
 pub returns-in_default-insn_at-clause-fault : goal.returns-in_default-insn_at-clause-fault
@@ -28,7 +28,7 @@ loop-place-preserved c =
     record {
       inside = below_more _ _ c.loop-place.invariant.inside there;
       read =
-          one_more words c.loop-place.insns.items at c.in-Some.insn
+          decoded-next_word words c.loop-place.insns.items at c.in-Some.insn
           (omega (arith, length-words_of c.args.code.now)) c.loop-place.invariant.read here
           ∙ ap (map Some) (sym c.push_reserved.ensures.items);
       count = c.push_reserved.ensures.len ∙ ap (λ (n : ℕ). n + 1) c.loop-place.invariant.count;

@@ -1,6 +1,6 @@
 use Rattle.std.proofs.Common.{true, false, Some, ap, sym, ◌∙◌}
 use Rattle.alpha_seq.proofs.ExecutedInsns.{class_here-insn}
-use Rattle.alpha_imprecise.specs.Step.{destination}
+use Rattle.alpha_imprecise.specs.Step.{trap_destination}
 use Rattle.alpha_imprecise.proofs.NextInsns.{triggers-here}
 use Rattle.alpha_imprecise.proofs.look.overflow_of.Goals as goal
 
@@ -15,5 +15,5 @@ returns-clause-found c =
     record {
       at = sym c.place_of.ensures.value ∙ c.in_ok-place.was;
       overflows = triggers-here m (Some c.args.insn.now) true c.requires c.in_ok-rc.ensures.found;
-      into = ap destination (class_here-insn m (Some c.args.insn.now) c.requires) ∙ c.in_ok-rc.ensures.into;
+      into = ap trap_destination (class_here-insn m (Some c.args.insn.now) c.requires) ∙ c.in_ok-rc.ensures.into;
     }

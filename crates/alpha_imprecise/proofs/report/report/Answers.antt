@@ -8,7 +8,8 @@ use Rattle.alpha_imprecise.specs.declared.pending.Pending.{Pending}
 use Rattle.alpha_imprecise.specs.Chosen.{reporting}
 use Rattle.alpha_imprecise.specs.ImpreciseState.{imprecise_state}
 use Rattle.alpha_imprecise.specs.ImpreciseStepEffect.{StepsAs}
-use Rattle.alpha_imprecise.proofs.Reports.{goes_far, landed-handled, landed-kernel, lost-handled, reported-Scanned}
+use Rattle.alpha_imprecise.proofs.Reports.{Scanned-pc_bound, landed-handled, landed-kernel, lost-handled}
+use Rattle.alpha_imprecise.proofs.Reports.{reported-Scanned}
 use Rattle.alpha_imprecise.proofs.report.report.Goals as goal
 
 pub land-requires : goal.land-requires
@@ -16,7 +17,7 @@ land-requires c = λ going.
     let m = c.args.machine.now in
     let mask = c.args.trap.now.mask in
     let h = going_on c.in-Ok.pc c.run_handler.new.machine.regs in
-    goes_far m.image m.completion m.pc mask m.regs h
+    Scanned-pc_bound m.image m.completion m.pc mask m.regs h
     (reported-Scanned m.image m.completion m.pc mask m.regs h c.in-Ok.ensures.ok)
     (ap (λ (x : Machine). stops x.completion) (sym c.in-Ok.ensures.frame) ∙ going)
 

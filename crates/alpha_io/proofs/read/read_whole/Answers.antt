@@ -1,7 +1,7 @@
 use Rattle.std.proofs.Common.{ℕ, refl, length, ◌∙◌, arith, length-take}
 use Rattle.alpha_io.specs.Files.{IsPiece}
 use Rattle.alpha_io.proofs.ShelfLaws.{KeepsFiles-trans, IfTold-kept}
-use Rattle.alpha_io.proofs.FilePieces.{IsReadTo-more, some_bytes, unended_file}
+use Rattle.alpha_io.proofs.FilePieces.{IsReadTo-more, piece-not_nil, IsReadTo-not_whole}
 use Rattle.alpha_io.proofs.FilePrefixes.{IsKnownPrefixRead-more}
 use Rattle.alpha_io.proofs.read.read_whole.Goals as goal
 
@@ -17,7 +17,7 @@ loop-buffer-preserved g c =
     record {
       so =
           IsReadTo-more _ _ _ _ _ _ _ s.so
-          (some_bytes c.in_ok-count.count _ now.bound.1 c.if-count-eq0.false) now.replies now.items;
+          (piece-not_nil c.in_ok-count.count _ now.bound.1 c.if-count-eq0.false) now.replies now.items;
       front = rw now.items front;
       room = omega (arith, now.len, length-take {A = ℕ});
       files = KeepsFiles-trans _ _ _ s.files now.files;
@@ -26,4 +26,4 @@ loop-buffer-preserved g c =
     }
 
 pub returns-clause-whole : goal.returns-clause-whole
-returns-clause-whole g c = λ file whole. absurd (unended_file _ _ _ _ _ c.loop-buffer.invariant.so whole)
+returns-clause-whole g c = λ file whole. absurd (IsReadTo-not_whole _ _ _ _ _ c.loop-buffer.invariant.so whole)

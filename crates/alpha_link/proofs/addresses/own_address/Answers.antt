@@ -3,7 +3,7 @@ use Rattle.std.specs.Prelude.{slice_get}
 use Rattle.alpha_link.specs.Symbols.{Named, named}
 use Rattle.alpha_link.specs.Parts.{ModuleParts}
 use Rattle.alpha_link.specs.Linked.{Located}
-use Rattle.alpha_link.proofs.OwnAddresses.{owned_at}
+use Rattle.alpha_link.proofs.OwnAddresses.{owned-section_address}
 use Rattle.alpha_link.proofs.addresses.own_address.Goals as goal
 
 pub returns : goal.returns
@@ -13,4 +13,4 @@ returns c =
     ap (λ (m : ModuleParts). m.symbols) c.module.view_is ∙ ap (λ (x : Located). x.parts.symbols) c.located.view_is in
     let here : slice_get l.parts.symbols c.args.number ≡ Some (named c.in_ok-symbol.symbol) =
     ap (λ (xs : List Named). slice_get xs c.args.number) (sym same) ∙ sym c.in_ok-symbol.ensures in
-    c.address.ensures ∙ sym (owned_at l c.args.number (named c.in_ok-symbol.symbol) here)
+    c.address.ensures ∙ sym (owned-section_address l c.args.number (named c.in_ok-symbol.symbol) here)

@@ -2,7 +2,7 @@ use Rattle.std.proofs.Common.{◌≡◌, ◌*◌, ℕ, length, map, take, drop, 
 use Rattle.std.specs.Prelude.{min}
 use Rattle.std.proofs.lemmas.List.{length-take}
 use Rattle.alpha_table.specs.Decoded.{decoded}
-use Rattle.alpha_link.proofs.WordBytes.{words_at-whole_words, words_at-cut, words_at-whole, code_refused}
+use Rattle.alpha_link.proofs.WordBytes.{words_at-whole_words, words_at-cut, words_at-whole, words_at-IsRefusal}
 use Rattle.alpha_link.proofs.read.read_code.Goals as goal
 
 pub returns-then-code-size-clause-value : goal.returns-then-code-size-clause-value
@@ -55,5 +55,5 @@ returns-in-Err-clause-value c =
     let cut : code ≡ take (min (4 * n) (length bytes)) bytes =
     c.split_at.ensures.front ∙ ap (λ (k : ℕ). take k bytes) c.min.ensures in
     rw c.fault_of_words.ensures
-    (code_refused c.args.total n bytes code c.in-Err.fault
+    (words_at-IsRefusal c.args.total n bytes code c.in-Err.fault
     (words_at-whole_words n bytes code cut) c.in-Err.ensures.fault)

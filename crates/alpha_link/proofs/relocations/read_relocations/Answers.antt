@@ -5,7 +5,7 @@ use Rattle.alpha_table.specs.Encoded.{encoded}
 use Rattle.alpha_link.specs.declared.relocation.Relocation.{Relocation}
 use Rattle.alpha_link.specs.Relocations.{relocation_at, body}
 use Rattle.alpha_link.specs.Reading.{items_at}
-use Rattle.alpha_link.proofs.ReadingResults.{passed_on}
+use Rattle.alpha_link.proofs.ReadingResults.{IsRefusal-passed_on}
 use Rattle.alpha_link.proofs.ItemLists.{format-continues, items_at-stops, items_at-ends}
 use Rattle.alpha_link.proofs.relocations.read_relocations.Goals as goal
 
@@ -59,6 +59,6 @@ returns-in_err-relocation c =
     let p = err_from_is_err_and c.from_residual-in_err-relocation.result c.from_residual-in_err-relocation.ensures.1 in
     let refused = rw c.deref.ensures.value at c.in_err-relocation.ensures.value in
     rw (p.1, p.2)
-    (passed_on c.in_err-relocation.field-0.0 (read before l.rest.now) whole
+    (IsRefusal-passed_on c.in_err-relocation.field-0.0 (read before l.rest.now) whole
     (λ d r. items_at-stops read n l._number before l.rest.now whole c.loop-number-test.true l.invariant.reads d r)
     refused)

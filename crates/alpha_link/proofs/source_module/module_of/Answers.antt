@@ -1,13 +1,13 @@
 use Rattle.std.proofs.Common.{◌≡◌, ℕ, List, Bor, length, map, sym, ap, ◌∙◌, arith}
 use Rattle.std.proofs.lemmas.List.{length-map}
 use Rattle.alpha_words.specs.declared.Level.TheVariants.{One}
-use Rattle.alpha_image.proofs.CodeInsns.{code_words_of_insns}
+use Rattle.alpha_image.proofs.CodeInsns.{IsCodeWord-map_encoded}
 use Rattle.alpha_text.specs.Reading.{LineStmt}
 use Rattle.alpha_asm.specs.Unlinked.{IsUnlinkedOf}
 use Rattle.alpha_link.specs.declared.keyed.KeyedName.{KeyedName}
 use Rattle.alpha_link.specs.Symbols.{named}
 use Rattle.alpha_link.specs.Numbered.{texts, ranked}
-use Rattle.alpha_link.proofs.SourceModules.{labels_near, module_good, module_is}
+use Rattle.alpha_link.proofs.SourceModules.{location_named-IsNear, IsModule-of_source, module_of-made_parts}
 use Rattle.alpha_link.proofs.Ranks.{ranks_of, AreRanks-within, all_ranked}
 use Rattle.alpha_link.proofs.DistinctNames.{distinct_names}
 use Rattle.alpha_link.proofs.SourceNames.{names_among, names_are, sorted_rise, sorted_among}
@@ -15,7 +15,7 @@ use Rattle.alpha_link.proofs.source_module.module_of.Goals as goal
 
 pub build-requires-2-clause-in_range : goal.build-requires-2-clause-in_range
 build-requires-2-clause-in_range c =
-    labels_near c.args.unlinked c.requires.lines c.requires.words c.requires.filled c.requires.data
+    location_named-IsNear c.args.unlinked c.requires.lines c.requires.words c.requires.filled c.requires.data
 
 pub build-requires-2-clause-keys : goal.build-requires-2-clause-keys
 build-requires-2-clause-keys c = rw c.deref.ensures.value c.in_ok-sorted.ensures.keys
@@ -67,10 +67,10 @@ invariant_of-result c =
     record {
       good =
           rw c.of_source.ensures
-          (module_good c.args.unlinked (names_once ks) (map named symbols) new c.requires.lines c.requires.level
+          (IsModule-of_source c.args.unlinked (names_once ks) (map named symbols) new c.requires.lines c.requires.level
           c.requires.words c.requires.filled c.requires.data rise among made put
           (omega (arith, symbol_count)) (omega (arith, relocation_count)));
-      insns = (code_words_of_insns One c.args.unlinked.code.items c.requires.level).1;
+      insns = (IsCodeWord-map_encoded One c.args.unlinked.code.items c.requires.level).1;
     }
 
 pub returns : goal.returns
@@ -89,7 +89,7 @@ returns c = record {
       let ranked_so : new ≡ map (ranked ranks) old =
       c.put_ranks.ensures ∙ ap (λ rs. map (ranked rs) old) c.deref-2.ensures.value in
       rw c.of_source.ensures
-      (module_is is c.args.unlinked (names_once ks) (map named c.in_ok-symbols.field-0.symbols.items) new m
+      (module_of-made_parts is c.args.unlinked (names_once ks) (map named c.in_ok-symbols.field-0.symbols.items) new m
       c.requires.filled (names_are is (names_once ks) rise among)
       (rw c.deref.ensures.value at c.in_ok-symbols.ensures.symbols)
       (all_ranked (texts names) (names_once ks) ranks c.args.unlinked.patches.items old new rise are

@@ -4,9 +4,9 @@ use Rattle.std.proofs.lemmas.Result.{err_from_is_err_and}
 use Rattle.alpha_link.specs.Symbols.{Named, named, symbol_at}
 use Rattle.alpha_link.specs.Listed.{symbol_from, read_in}
 use Rattle.alpha_link.specs.Reading.{items_at}
-use Rattle.alpha_link.proofs.ReadingResults.{passed_on}
+use Rattle.alpha_link.proofs.ReadingResults.{IsRefusal-passed_on}
 use Rattle.alpha_link.proofs.ItemLists.{format-continues, items_at-stops}
-use Rattle.alpha_link.proofs.SymbolBytes.{stands_there, place_next}
+use Rattle.alpha_link.proofs.SymbolBytes.{symbol_from-front, place_next}
 use Rattle.alpha_link.proofs.symbols.read_symbols.Goals as goal
 
 pub loop-number-preserved : goal.loop-number-preserved
@@ -19,7 +19,7 @@ loop-number-preserved c =
     let rest = l.rest.now in
     let behind = c.in_ok-behind.behind.now in
     let s = named c.in_ok-behind.field-0-0 in
-    let there = stands_there c.args.total c.args.sizes.now before rest s behind c.in_ok-behind.ensures.value in
+    let there = symbol_from-front c.args.total c.args.sizes.now before rest s behind c.in_ok-behind.ensures.value in
     let step = format-continues read n l._number before rest s behind
     (items_at read n [] bytes) c.loop-number-test.true l.invariant.reads c.in_ok-behind.ensures.value in
     let begin : drop c.saturating_sub.result l.symbols.bytes.now ≡ rest =
@@ -46,6 +46,6 @@ returns-in_err-behind c =
     let whole = items_at read n [] c.args.bytes.now in
     let p = err_from_is_err_and c.from_residual-in_err-behind.result c.from_residual-in_err-behind.ensures.1 in
     rw (p.1, p.2)
-    (passed_on c.in_err-behind.field-0.0 (read before l.rest.now) whole
+    (IsRefusal-passed_on c.in_err-behind.field-0.0 (read before l.rest.now) whole
     (λ d r. items_at-stops read n l._number before l.rest.now whole c.loop-number-test.true l.invariant.reads d r)
     c.in_err-behind.ensures.value)

@@ -1,8 +1,8 @@
-use Rattle.alpha_mem.proofs.LawLemmas.{same_memory, slice_index-bytes_at, length-bytes_at, bytes_at-agree}
+use Rattle.alpha_mem.proofs.LawLemmas.{memory-extensional, slice_index-bytes_at, length-bytes_at, bytes_at-agree}
 use Rattle.alpha_mem.proofs.laws.laws_of_reads.Goals as goal
 
 pub returns-clause-same : goal.returns-clause-same
-returns-clause-same c = same_memory
+returns-clause-same c = memory-extensional
 
 pub returns-clause-each : goal.returns-clause-each
 returns-clause-each c = slice_index-bytes_at

@@ -7,7 +7,7 @@ use Rattle.alpha_operands.specs.Walk.{operands}
 use Rattle.alpha_operands.proofs.Grammar.{follow-spells, spells-follow}
 use Rattle.alpha_operands.proofs.PatternsApart.{shapes-distinct}
 use Rattle.alpha_token.proofs.TokenOrder.{tokens-fall}
-use Rattle.alpha_operands.proofs.OperandFaults.{follow-has, follow-first, operands-clean}
+use Rattle.alpha_operands.proofs.OperandFaults.{follow-has, follow-first, AreOperands-no_fault}
 use Rattle.alpha_operands.proofs.laws.laws_of_operands.Goals as goal
 
 pub returns-clause-grammar : goal.returns-clause-grammar
@@ -26,4 +26,4 @@ returns-clause-fault c = λ s line f h. (
 )
 
 pub returns-clause-faultless : goal.returns-clause-faultless
-returns-clause-faultless c = λ s line o f h. operands-clean (patterns s) (shapes-distinct s) (tokens line) o f h
+returns-clause-faultless c = λ s line o f h. AreOperands-no_fault (patterns s) (shapes-distinct s) (tokens line) o f h

@@ -1,12 +1,12 @@
 use Rattle.std.proofs.Common.{sym}
 use Rattle.alpha_operands.specs.Names.{registers}
-use Rattle.alpha_operands.proofs.Registers.{first_of, registers-first}
+use Rattle.alpha_operands.proofs.Registers.{named-HasRow, registers-first}
 use Rattle.alpha_operands.proofs.names.register_number.Goals as goal
 
 pub returns-in-Some : goal.returns-in-Some
 unfolding registers
 returns-in-Some c =
-    sym (first_of registers registers c.args.name.now c.in-Some.number registers-first c.in-Some.ensures)
+    sym (named-HasRow registers registers c.args.name.now c.in-Some.number registers-first c.in-Some.ensures)
 
 pub returns-in-None : goal.returns-in-None
 unfolding registers

@@ -2,14 +2,15 @@ use Rattle.alpha_text.specs.declared.head.Head.TheVariants as heads
 use Rattle.alpha_text.specs.SuffixWords.{Says}
 use Rattle.alpha_quick.specs.Parts.{SaysNamed}
 use Rattle.alpha_quick.specs.InsnPrefix.{PrefixSays}
-use Rattle.alpha_quick.proofs.LexemeMeanings.{IfSome-implied, whole_leads, leads_as, SaysBy-insn, SaysBy-pseudo_op}
+use Rattle.alpha_quick.proofs.LexemeMeanings.{IfSome-implied, PrefixSays-insn, PrefixSays-weaker, SaysBy-insn}
+use Rattle.alpha_quick.proofs.LexemeMeanings.{SaysBy-pseudo_op}
 use Rattle.alpha_quick.proofs.line.insn_prefix_of.Goals as goal
 
 pub returns-in-Some : goal.returns-in-Some
 returns-in-Some c =
     IfSome-implied (PrefixSays (Says c.in-Some.row c.in_ok-words.words.now))
     (PrefixSays (SaysNamed c.args.lexeme.now.name.now c.args.lexeme.now.rest.now)) c.of_row.result
-    (λ l h. leads_as (Says c.in-Some.row c.in_ok-words.words.now)
+    (λ l h. PrefixSays-weaker (Says c.in-Some.row c.in_ok-words.words.now)
     (SaysNamed c.args.lexeme.now.name.now c.args.lexeme.now.rest.now) l
     (λ s k. (
       heads.Insn c.in-Some.row,
@@ -20,7 +21,7 @@ returns-in-Some c =
 
 pub returns-in_ok-insn-in-None : goal.returns-in_ok-insn-in-None
 returns-in_ok-insn-in-None c =
-    whole_leads (SaysNamed c.args.lexeme.now.name.now c.args.lexeme.now.rest.now) c.without_label.result
+    PrefixSays-insn (SaysNamed c.args.lexeme.now.name.now c.args.lexeme.now.rest.now) c.without_label.result
     c.in_ok-insn-in-None.insn c.without_label.ensures.insn c.without_label.ensures.whole (
       heads.PseudoOp c.in_ok-pseudo_op-in-None.pseudo_op,
       c.in_ok-pseudo_op-in-None.ensures,

@@ -2,7 +2,7 @@ use Rattle.std.proofs.Common.{◌≡◌, IsTrue, rules, subst, sym}
 use Rattle.alpha_table.specs.Names.{name_of}
 use Rattle.alpha_quick.specs.declared.rows.KeyedRow.{KeyedRow}
 use Rattle.alpha_quick.specs.Keys.{is_named}
-use Rattle.alpha_quick.proofs.Keys.{named_at}
+use Rattle.alpha_quick.proofs.Keys.{is_named-row_at}
 use Rattle.alpha_quick.proofs.rows.row_in.Goals as goal
 
 pub returns-then-eq : goal.returns-then-eq
@@ -12,4 +12,4 @@ returns-then-eq c =
     let same : c.in_ok-keyed.field-0.now.key.0 ≡ c.args.key.0 = search rules in
     subst (λ k. IsTrue (is_named (name_of keyed.row) k)) same
     (subst (λ (r : KeyedRow). IsTrue (is_named (name_of r.row) r.key.0)) (sym (is keyed))
-    (named_at c.args.rows.now c.args.place keyed c.requires within))
+    (is_named-row_at c.args.rows.now c.args.place keyed c.requires within))

@@ -1,5 +1,5 @@
 use Rattle.alpha_replay.proofs.JournaledRuns.{IsJournaled-single, journaled_run}
-use Rattle.alpha_replay.proofs.JournalBounds.{some_place, few_words}
+use Rattle.alpha_replay.proofs.JournalBounds.{IsJournaled-exists, IsJournaled-bounds}
 use Rattle.alpha_replay.proofs.InputPrefixes.{list_feeds}
 use Rattle.alpha_replay.proofs.JournaledReplays.{journaled_lists, journaled_replays}
 use Rattle.alpha_replay.proofs.JournalTold.{stops_told}
@@ -7,8 +7,8 @@ use Rattle.alpha_replay.proofs.laws.laws_of_journaled_runs.Goals as goal
 
 pub returns : goal.returns
 returns c = record {
-  some = some_place;
-  few = few_words;
+  some = IsJournaled-exists;
+  few = IsJournaled-bounds;
   one = λ n g from k l. IsJournaled-single n g from k l;
   runs = λ n g from k. journaled_run n g from k;
   listed = journaled_lists;

@@ -8,7 +8,7 @@ use Rattle.alpha_replay.specs.declared.journal_end.JournalEnd.TheVariants.{Faile
 use Rattle.alpha_replay.specs.JournalEnd.{MakesJournal}
 use Rattle.alpha_replay.specs.Recorder.{outcome}
 use Rattle.alpha_replay.specs.BuilderState.{BuilderState}
-use Rattle.alpha_replay.proofs.JournalLoop.{made_ok, made_err, journal_found}
+use Rattle.alpha_replay.proofs.JournalLoop.{MakesJournal-ok, made_err, JournalLosesNone-never_loses}
 use Rattle.alpha_replay.proofs.JournalTold.{journal_told}
 use Rattle.alpha_replay.proofs.make.make_journal.Goals as goal
 
@@ -27,7 +27,7 @@ returns-in-Ok-run_and_record-clause-made g c =
     let same : c.outcome.result ≡ outcome last old.machine.completion to =
     c.outcome.ensures ∙ ap (λ (m : Machine). outcome last m.completion to) c.machine.ensures in
     subst (λ (e : JournalEnd). MakesJournal e c.args.units old new before after input out notes) (sym same)
-    (made_ok last c.args.units did.0 old new
+    (MakesJournal-ok last c.args.units did.0 old new
     (record { builder = c.in-Ok.tape; full = false }) to before after input out notes
     (ap (λ (t : BuilderState). record { builder = t; full = false }) c.in-Ok.ensures) did.1)
 
@@ -43,7 +43,7 @@ returns-in-Ok-run_and_record-clause-told g c = λ bytes ahead tells told fresh.
 
 pub returns-in-Ok-run_and_record-clause-found : goal.returns-in-Ok-run_and_record-clause-found
 returns-in-Ok-run_and_record-clause-found g c = λ calm never.
-    journal_found c.outcome.result c.args.units c.args.wild.now c.run_and_record.new.wild
+    JournalLosesNone-never_loses c.outcome.result c.args.units c.args.wild.now c.run_and_record.new.wild
     (oracle_of g.C.Chooser.ahead g.C.Chooser.drawn c.args.chooser.now)
     (oracle_of g.C.Chooser.ahead g.C.Chooser.drawn c.run_and_record.new.chooser)
     (drawn g.S.Source c.args.input.now c.run_and_record.new.input)

@@ -8,7 +8,7 @@ use Rattle.alpha_replay.specs.ReplayEffect.{place}
 use Rattle.alpha_replay.specs.Replay.{ends_seen}
 use Rattle.alpha_replay.proofs.ReplayAnswers.{CursorAt-by, listed-StopsAt, item_fault, output_fault, end_fault}
 use Rattle.alpha_replay.proofs.ReplayAnswers.{input_fault}
-use Rattle.alpha_replay.proofs.ReplayAnswers.{no_fault, left_some, left_none}
+use Rattle.alpha_replay.proofs.ReplayAnswers.{no_fault, eqb-length_not_zero, eqb-length_zero}
 use Rattle.alpha_replay.proofs.replaying.play_all.Goals as goal
 
 pub returns-in-Err : goal.returns-in-Err
@@ -51,7 +51,7 @@ returns-then-left-ne0 c = λ image how begins.
     (c.ends_as.ensures
     ∙ ap (λ (calm : Bool). ends_seen c.args.ending.now c.in-Ok.stand.last calm) c.has_no_pending.ensures)
     ∙ c.if-not-ends_as.false)
-    (left_some c.play_items.new.input.left (length c.rest-left.result.now) left_is c.if-left-ne0.true)
+    (eqb-length_not_zero c.play_items.new.input.left (length c.rest-left.result.now) left_is c.if-left-ne0.true)
 
 pub returns : goal.returns
 returns c = λ image how begins.
@@ -66,5 +66,5 @@ returns c = λ image how begins.
     (c.ends_as.ensures
     ∙ ap (λ (calm : Bool). ends_seen c.args.ending.now c.in-Ok.stand.last calm) c.has_no_pending.ensures)
     ∙ c.if-not-ends_as.false)
-    (left_none c.play_items.new.input.left (length c.rest-left.result.now)
+    (eqb-length_zero c.play_items.new.input.left (length c.rest-left.result.now)
     (ap length c.rest-left.ensures) c.if-left-ne0.false))

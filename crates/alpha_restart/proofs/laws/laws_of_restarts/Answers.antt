@@ -1,8 +1,12 @@
 use Rattle.alpha_restart.proofs.Safety.{safe}
-use Rattle.alpha_restart.proofs.Agreement.{accepted_restarts}
-use Rattle.alpha_restart.proofs.NoTrapLost.{accepted_found}
+use Rattle.alpha_restart.proofs.Agreement.{IsAccepted-IsRestartable}
+use Rattle.alpha_restart.proofs.NoTrapLost.{IsAccepted-NeverLoses}
 use Rattle.alpha_restart.proofs.laws.laws_of_restarts.Goals as goal
 
 pub returns : goal.returns
 returns c =
-    record { accepted = accepted_restarts; found = accepted_found; safe = λ image accepted. safe image.words accepted }
+    record {
+      accepted = IsAccepted-IsRestartable;
+      found = IsAccepted-NeverLoses;
+      safe = λ image accepted. safe image.words accepted;
+    }

@@ -1,10 +1,10 @@
-use Rattle.alpha_round.proofs.SameImage.{source-listing, one-listing}
+use Rattle.alpha_round.proofs.SameImage.{IsSourceOf-listing, listing-injective}
 use Rattle.alpha_round.proofs.ListingSizes.{length-listing}
 use Rattle.alpha_round.proofs.laws.laws_of_listings.Goals as goal
 
 pub returns : goal.returns
 returns c = record {
-  listing = source-listing;
-  different = one-listing;
+  listing = IsSourceOf-listing;
+  different = listing-injective;
   bound = length-listing;
 }

@@ -1,4 +1,4 @@
-use Rattle.alpha_run.proofs.RunsByWords.{by_words, by_words_part, draws_few, cut_draws_few}
+use Rattle.alpha_run.proofs.RunsByWords.{by_words, by_words_part, ImpreciseRanAs-DrawsFew, cut_draws_few}
 use Rattle.alpha_run.proofs.laws.laws_of_told_words.Goals as goal
 
 pub returns-clause-whole : goal.returns-clause-whole
@@ -11,7 +11,7 @@ returns-clause-part c fault n rest watch w new before after input out notes byte
 
 pub returns-clause-few : goal.returns-clause-few
 returns-clause-few c last n left watch w new before after input out notes ran calm =
-    draws_few last n left watch w new before after input out notes ran calm
+    ImpreciseRanAs-DrawsFew last n left watch w new before after input out notes ran calm
 
 pub returns-clause-few_part : goal.returns-clause-few_part
 returns-clause-few_part c fault n rest watch w new before after input out notes cut calm =

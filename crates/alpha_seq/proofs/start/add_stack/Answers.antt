@@ -3,7 +3,7 @@ use Rattle.std.proofs.lemmas.Result.{on_ok_weaker}
 use Rattle.alpha_mem.specs.Block.{shapes}
 use Rattle.alpha_mem.specs.Memory.{IsFree}
 use Rattle.alpha_seq.specs.StartMemory.{memory_before}
-use Rattle.alpha_seq.proofs.ImageLoads.{region-added, stack_free, stack_last}
+use Rattle.alpha_seq.proofs.ImageLoads.{region-added, stack_free, start_memory-stack_last}
 use Rattle.alpha_seq.proofs.start.add_stack.Goals as goal
 
 pub add-requires-clause-free : goal.add-requires-clause-free
@@ -22,4 +22,5 @@ returns c =
     on_ok_weaker c.add.result
     (λ is.
     region-added c.args.memory.now c.add.new.self (memory_before p (length p.segments)) (2 ^ 30 - n) (2 ^ 30 - p.stack)
-    n p.stack [] [] true c.requires (ap (λ k. 2 ^ 30 - k) size) refl size is ∙ stack_last p) c.add.ensures.ok
+    n p.stack [] [] true c.requires (ap (λ k. 2 ^ 30 - k) size) refl size is ∙ start_memory-stack_last p)
+    c.add.ensures.ok

@@ -2,13 +2,13 @@ use Rattle.std.proofs.Common.{◌≡◌, ◌≢◌, Some, ap, sym, subst, ◌∙
 use Rattle.alpha_table.specs.declared.columns.InsnKind.TheVariants as kinds
 use Rattle.alpha_shadow.specs.Code.{kind_at}
 use Rattle.alpha_shadow.specs.Place.{IsLeastUpTo}
-use Rattle.alpha_shadow.proofs.Barriers.{breaks_nothing}
+use Rattle.alpha_shadow.proofs.Barriers.{IsLeastUpTo-barrier}
 use Rattle.alpha_shadow.proofs.place.broken_at.Goals as goal
 use Rattle.alpha_shadow.proofs.place.broken_at.Goals.{in-Trigger, in-Plain, in-Turn, in-Load}
 
 -- a barrier breaks nothing
 pub returns-in-Barrier : goal.returns-in-Barrier
-returns-in-Barrier c = λ code s u h. breaks_nothing code c.args.at (h.kind ∙ ap Some c.in-Barrier.is)
+returns-in-Barrier c = λ code s u h. IsLeastUpTo-barrier code c.args.at (h.kind ∙ ap Some c.in-Barrier.is)
 
 pub returns : goal.returns
 returns c = λ code s u h.

@@ -3,7 +3,7 @@ use Rattle.alpha_table.specs.declared.columns.InsnKind.TheVariants as kinds
 use Rattle.alpha_shadow.specs.declared.broken.Condition.TheVariants.{Turn}
 use Rattle.alpha_shadow.specs.Code.{kind_at}
 use Rattle.alpha_shadow.proofs.BreakingTriggers.{turn_missing}
-use Rattle.alpha_shadow.proofs.LeastBrokenSteps.{IsLeastUpTo-skip, open_next}
+use Rattle.alpha_shadow.proofs.LeastBrokenSteps.{IsLeastUpTo-skip, IsLeastUpTo-open_skip}
 use Rattle.alpha_shadow.proofs.place.broken_by_access.Goals as goal
 
 pub returns : goal.returns
@@ -19,4 +19,4 @@ returns c = λ code s u h.
     let c5 = c.lesser_broken-found-2.ensures code 4 refl c4 (c.load_then_store.ensures code at s h) in
     let c6 = c.lesser_broken.ensures code 5 refl c5 (c.locked_access.ensures code at s h) in
     let c7 = IsLeastUpTo-skip code at 6 Turn c.lesser_broken.result refl (turn_missing code at turns) c6 in
-    open_next code at c.lesser_broken.result h.within c7
+    IsLeastUpTo-open_skip code at c.lesser_broken.result h.within c7

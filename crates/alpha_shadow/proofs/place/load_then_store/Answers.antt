@@ -5,7 +5,7 @@ use Rattle.alpha_shadow.specs.declared.broken.Condition.TheVariants.{LoadThenSto
 use Rattle.alpha_shadow.specs.Place.{IsFirstBroken}
 use Rattle.alpha_shadow.specs.Reach.{MayTouch, reach_of}
 use Rattle.alpha_shadow.proofs.OpenLoads.{any_open_load}
-use Rattle.alpha_shadow.proofs.BreakingTriggers.{window_first, store_found, store_missing}
+use Rattle.alpha_shadow.proofs.BreakingTriggers.{IsFirstThat-window_first, LoadThenStore-found, LoadThenStore-missing}
 use Rattle.alpha_shadow.proofs.place.load_then_store.Goals as goal
 
 pub returns-then-eq : goal.returns-then-eq
@@ -18,11 +18,12 @@ returns-then-eq c = λ code at s h.
     ⊎_elim (λ (p : Any (λ load. MayTouch load c.of.result) loads × _).
     let any = subst (λ r. Any (λ load. MayTouch load r) loads) c.of.ensures p.0 in
     let touches = open_load.0 (subst (Any (λ load. MayTouch load (reach_of a))) s.loads any) in
-    store_found code at a (h.kind ∙ ap Some kind) (h.access ∙ (sym c.access.ensures ∙ c.in_ok-store.was)) touches r
-    (window_first code c.args.window.now at s r p.1))
+    LoadThenStore-found code at a (h.kind ∙ ap Some kind)
+    (h.access ∙ (sym c.access.ensures ∙ c.in_ok-store.was)) touches r
+    (IsFirstThat-window_first code c.args.window.now at s r p.1))
     (λ (q : ¬ Any (λ load. MayTouch load c.of.result) loads × _).
     subst (IsFirstBroken code at LoadThenStore) (sym q.1)
-    (store_missing code at a (h.access ∙ (sym c.access.ensures ∙ c.in_ok-store.was)) (λ t.
+    (LoadThenStore-missing code at a (h.access ∙ (sym c.access.ensures ∙ c.in_ok-store.was)) (λ t.
     let any = subst (Any (λ load. MayTouch load (reach_of a))) (sym s.loads) (open_load.1 t) in
     q.0 (subst (λ r. Any (λ load. MayTouch load r) loads) (sym c.of.ensures) any))))
     c.first_with_load_that_may_meet.ensures

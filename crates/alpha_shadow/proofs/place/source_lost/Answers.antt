@@ -4,14 +4,15 @@ use Rattle.alpha_table.specs.declared.columns.InsnKind.TheVariants as kinds
 use Rattle.alpha_shadow.specs.declared.broken.Condition.TheVariants.{SourceLost}
 use Rattle.alpha_shadow.specs.Window.{IsFirstThat}
 use Rattle.alpha_shadow.specs.Place.{IsFirstBroken}
-use Rattle.alpha_shadow.proofs.BreakingTriggers.{window_within, source_lost-first, lost_nothing, lost_or_itself}
-use Rattle.alpha_shadow.proofs.BreakingTriggers.{lost_first}
+use Rattle.alpha_shadow.proofs.BreakingTriggers.{IsFirstThat-window_within, source_lost-first, SourceLost-no_set}
+use Rattle.alpha_shadow.proofs.BreakingTriggers.{SourceLost-or_itself}
+use Rattle.alpha_shadow.proofs.BreakingTriggers.{SourceLost-first}
 use Rattle.alpha_shadow.proofs.place.source_lost.Goals as goal
 
 pub returns-in_err-r : goal.returns-in_err-r
 returns-in_err-r c = λ code s u h.
     subst (IsFirstBroken code c.args.at SourceLost) (sym c.from_residual.ensures)
-    (lost_nothing code c.args.at (h.sets ∙ c.in_err-r.was))
+    (SourceLost-no_set code c.args.at (h.sets ∙ c.in_err-r.was))
 
 -- the word doesn't use the register
 pub returns-then-not-has : goal.returns-then-not-has
@@ -23,10 +24,10 @@ returns-then-not-has c = λ code s u h.
     let not : Has c.args.word.now.uses r → ⊥ = λ q. let t = c.has.ensures.1 q in let f = c.if-not-has.true in cc in
     let m = source_lost-first code w at r end c.args.word.now s u h c.in_ok-r.was c.end-unset.ensures.register
     (inr (not, c.end.ensures.value)) in
-    let f = window_within code w at c.end-unset.result end s c.first_within.result c.first_within.ensures in
+    let f = IsFirstThat-window_within code w at c.end-unset.result end s c.first_within.result c.first_within.ensures in
     let g =
     subst (λ n. IsFirstThat code at (λ p. (n ≤ p) × (p < end)) c.first_within.result) c.end-unset.ensures.value f in
-    lost_first code w at r end m (λ q. not ((h.uses r).1 q.1)) c.first_within.result g
+    SourceLost-first code w at r end m (λ q. not ((h.uses r).1 q.1)) c.first_within.result g
 
 pub returns-then-eq : goal.returns-then-eq
 returns-then-eq c = λ code s u h.
@@ -38,11 +39,12 @@ returns-then-eq c = λ code s u h.
     let m =
     source_lost-first code w at r at c.args.word.now s u h c.in_ok-r.was c.end-unset.ensures.register
     (inl (uses, refl)) in
-    let f = window_within code w at c.end-unset.result at s c.first_within-first.result c.first_within-first.ensures in
+    let f = IsFirstThat-window_within code w at c.end-unset.result at s c.first_within-first.result
+    c.first_within-first.ensures in
     let g = subst (λ n. IsFirstThat code at (λ p. (n ≤ p) × (p < at)) c.first_within-first.result)
     c.end-unset.ensures.value f in
     subst (IsFirstBroken code at SourceLost) (sym c.or.ensures)
-    (lost_or_itself code w at r at m (h.kind ∙ ap Some kind) ((h.uses r).0 uses) c.first_within-first.result g)
+    (SourceLost-or_itself code w at r at m (h.kind ∙ ap Some kind) ((h.uses r).0 uses) c.first_within-first.result g)
 
 pub returns-else-eq : goal.returns-else-eq
 returns-else-eq c = λ code s u h.
@@ -55,7 +57,8 @@ returns-else-eq c = λ code s u h.
     let m =
     source_lost-first code w at r at c.args.word.now s u h c.in_ok-r.was c.end-unset.ensures.register
     (inl (uses, refl)) in
-    let f = window_within code w at c.end-unset.result at s c.first_within-first.result c.first_within-first.ensures in
+    let f = IsFirstThat-window_within code w at c.end-unset.result at s c.first_within-first.result
+    c.first_within-first.ensures in
     let g = subst (λ n. IsFirstThat code at (λ p. (n ≤ p) × (p < at)) c.first_within-first.result)
     c.end-unset.ensures.value f in
-    lost_first code w at r at m (λ q. other (let t = q.0 in cc)) c.first_within-first.result g
+    SourceLost-first code w at r at m (λ q. other (let t = q.0 in cc)) c.first_within-first.result g

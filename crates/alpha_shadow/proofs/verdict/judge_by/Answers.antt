@@ -5,11 +5,13 @@ use Rattle.alpha_shadow.specs.Broken.{IsAccepted}
 use Rattle.alpha_shadow.specs.Least.{IsLeastBroken}
 use Rattle.alpha_shadow.specs.Window.{Summarizes, IsUnbroken, IsFirstThat}
 use Rattle.alpha_shadow.specs.Place.{IsLeastUpTo}
-use Rattle.alpha_shadow.proofs.BreakingTriggers.{window_first}
-use Rattle.alpha_shadow.proofs.Barriers.{breaks_nothing, Summarizes-behind_barrier}
-use Rattle.alpha_shadow.proofs.CodeWalk.{IsUnbroken-HasRoom, unbroken_passed, found_least, end_accepted, end_least}
-use Rattle.alpha_shadow.proofs.NextTriggers.{none_first, known_there, rest_accepted, still_open, insn_within}
-use Rattle.alpha_shadow.proofs.NextTriggers.{trigger_here}
+use Rattle.alpha_shadow.proofs.BreakingTriggers.{IsFirstThat-window_first}
+use Rattle.alpha_shadow.proofs.Barriers.{IsLeastUpTo-barrier, Summarizes-behind_barrier}
+use Rattle.alpha_shadow.proofs.CodeWalk.{IsUnbroken-HasRoom, IsUnbroken-next, IsUnbroken-IsLeastBroken}
+use Rattle.alpha_shadow.proofs.CodeWalk.{IsUnbroken-end_accepted, IsUnbroken-end_open}
+use Rattle.alpha_shadow.proofs.NextTriggers.{Summarizes-zero_no_triggers, Summarizes-AreNoTriggers}
+use Rattle.alpha_shadow.proofs.NextTriggers.{AreNoTriggers-IsAccepted, Summarizes-still_open, insn_within}
+use Rattle.alpha_shadow.proofs.NextTriggers.{IsNextTrigger-kind_at}
 use Rattle.alpha_shadow.proofs.verdict.judge_by.Goals as goal
 
 pub quiet-init : goal.quiet-init
@@ -17,7 +19,7 @@ quiet-init g c = record {
   same = refl;
   words = c.words-words.ensures;
   within = omega arith;
-  none = none_first (g.F.Fetch.code c.args.code.now) c.args.window.now c.requires;
+  none = Summarizes-zero_no_triggers (g.F.Fetch.code c.args.code.now) c.args.window.now c.requires;
   summary = c.requires;
   unbroken = λ p place d below b. omega arith;
   fetches = omega arith;
@@ -27,7 +29,7 @@ pub returns-in_default-clause-accepted : goal.returns-in_default-clause-accepted
 returns-in_default-clause-accepted g c =
     let code = g.F.Fetch.code c.quiet.code in
     subst IsAccepted c.quiet.invariant.same
-    (rest_accepted code c.quiet.at c.quiet.window
+    (AreNoTriggers-IsAccepted code c.quiet.at c.quiet.window
     (let e = c.quiet.invariant.words in let w = c.quiet.invariant.within in omega arith)
     (c.quiet.invariant.none, c.in_default.ensures.none) c.quiet.invariant.summary
     c.quiet.invariant.unbroken)
@@ -39,13 +41,14 @@ returns-in-Some-open_shadow-clause-broken g c =
     let code = g.F.Fetch.code c.quiet.code in
     let next = c.in-Some.next in
     let found = c.in-Some.ensures.found in
-    let known = known_there code c.quiet.at next.place c.quiet.window found.above c.quiet.invariant.none found.quiet
+    let known =
+    Summarizes-AreNoTriggers code c.quiet.at next.place c.quiet.window found.above c.quiet.invariant.none found.quiet
     c.quiet.invariant.summary c.quiet.invariant.unbroken in
     let some =
     subst (IsLeastUpTo code next.place 9) c.in-Some-open_shadow.is
     (c.open_shadow.ensures.found code known.0 known.1 found.there) in
     subst (λ k. IsLeastBroken k c.in-Some-open_shadow.broken) c.quiet.invariant.same
-    (found_least code next.place c.in-Some-open_shadow.broken known.1 some)
+    (IsUnbroken-IsLeastBroken code next.place c.in-Some-open_shadow.broken known.1 some)
 
 pub returns-in-Some-open_shadow-clause-fetches : goal.returns-in-Some-open_shadow-clause-fetches
 returns-in-Some-open_shadow-clause-fetches g c =
@@ -62,12 +65,13 @@ loop-place-init g c =
     let next = c.in-Some.next in
     let found = c.in-Some.ensures.found in
     let same = c.in-Some.ensures.code in
-    let known = known_there code c.quiet.at next.place c.quiet.window found.above c.quiet.invariant.none found.quiet
+    let known =
+    Summarizes-AreNoTriggers code c.quiet.at next.place c.quiet.window found.above c.quiet.invariant.none found.quiet
     c.quiet.invariant.summary c.quiet.invariant.unbroken in
     let none = subst (IsLeastUpTo code next.place 9) c.in_default-open_shadow.is
     (c.open_shadow.ensures.found code known.0 known.1 found.there) in
     let passed = c.in_default-open_shadow.ensures.none code known.0 found.there in
-    let kind = trigger_here code c.quiet.at next found in
+    let kind = IsNextTrigger-kind_at code c.quiet.at next found in
     record {
       same = same ∙ c.quiet.invariant.same;
       words = c.quiet.invariant.words ∙ ap length (sym same);
@@ -77,10 +81,11 @@ loop-place-init g c =
           let words = c.quiet.invariant.words in
           omega arith;
       opened =
-          still_open code next.place c.quiet.window c.open_shadow.new.window kinds.Trigger known.0 kind (λ e. cc) none
+          Summarizes-still_open code next.place c.quiet.window c.open_shadow.new.window kinds.Trigger known.0 kind
+          (λ e. cc) none
           (λ q. q.1 refl) passed;
       summary = subst (λ k. Summarizes k c.open_shadow.new.window (next.place + 1)) (sym same) passed;
-      unbroken = subst (λ k. IsUnbroken k (next.place + 1)) (sym same) (unbroken_passed code next.place known.1 none);
+      unbroken = subst (λ k. IsUnbroken k (next.place + 1)) (sym same) (IsUnbroken-next code next.place known.1 none);
       fetches = let n = c.in-Some.ensures.looked in let f = c.quiet.invariant.fetches in omega arith;
     }
 
@@ -108,7 +113,7 @@ quiet-preserved g c =
           c.close.ensures.triggers c.close.ensures.loads c.close.ensures.set c.close.ensures.used);
       unbroken =
           subst (λ k. IsUnbroken k (at + 1)) (sym same)
-          (unbroken_passed code at c.loop-place.invariant.unbroken (breaks_nothing code at barrier));
+          (IsUnbroken-next code at c.loop-place.invariant.unbroken (IsLeastUpTo-barrier code at barrier));
       fetches = let n = c.insn.ensures.count in let f = c.loop-place.invariant.fetches in omega arith;
     }
 
@@ -120,7 +125,7 @@ returns-in-Some-broken_at-clause-broken g c =
     let some = subst (IsLeastUpTo code at 9) c.in-Some-broken_at.is
     (c.broken_at.ensures code c.loop-place.invariant.summary c.loop-place.invariant.unbroken word) in
     subst (λ k. IsLeastBroken k c.in-Some-broken_at.broken) c.loop-place.invariant.same
-    (found_least code at c.in-Some-broken_at.broken c.loop-place.invariant.unbroken some)
+    (IsUnbroken-IsLeastBroken code at c.in-Some-broken_at.broken c.loop-place.invariant.unbroken some)
 
 pub pass-requires : goal.pass-requires
 pass-requires g c =
@@ -152,11 +157,12 @@ loop-place-preserved g c =
       above = let a = c.loop-place.invariant.above in omega arith;
       within = omega arith;
       opened =
-          still_open code at c.loop-place.window c.pass.new.self c.of-columns.result.kind c.loop-place.invariant.summary
+          Summarizes-still_open code at c.loop-place.window c.pass.new.self c.of-columns.result.kind
+          c.loop-place.invariant.summary
           word.kind other none (λ q. c.loop-place.invariant.opened q.0) next;
       summary = subst (λ k. Summarizes k c.pass.new.self (at + 1)) (sym same) next;
       unbroken =
-          subst (λ k. IsUnbroken k (at + 1)) (sym same) (unbroken_passed code at c.loop-place.invariant.unbroken none);
+          subst (λ k. IsUnbroken k (at + 1)) (sym same) (IsUnbroken-next code at c.loop-place.invariant.unbroken none);
       fetches = let n = c.insn.ensures.count in let f = c.loop-place.invariant.fetches in omega arith;
     }
 
@@ -170,9 +176,9 @@ returns-in-None-clause-accepted g c =
     let e = c.loop-place.invariant.words in let l = c.loop-place.invariant.within in omega arith in
     let summary = subst (Summarizes code w) end c.loop-place.invariant.summary in
     let first = subst (IsFirstThat code (length code) (λ p. Unit {0})) c.in-None.is
-    (window_first code w (length code) summary c.first.result c.first.ensures) in
+    (IsFirstThat-window_first code w (length code) summary c.first.result c.first.ensures) in
     subst IsAccepted c.loop-place.invariant.same
-    (end_accepted code w summary (subst (IsUnbroken code) end c.loop-place.invariant.unbroken) first)
+    (IsUnbroken-end_accepted code w summary (subst (IsUnbroken code) end c.loop-place.invariant.unbroken) first)
 
 pub returns-in-Some-first-clause-broken : goal.returns-in-Some-first-clause-broken
 returns-in-Some-first-clause-broken g c =
@@ -183,9 +189,9 @@ returns-in-Some-first-clause-broken g c =
     let e = c.loop-place.invariant.words in let l = c.loop-place.invariant.within in omega arith in
     let summary = subst (Summarizes code w) end c.loop-place.invariant.summary in
     let first = subst (IsFirstThat code (length code) (λ p. Unit {0})) c.in-Some-first.is
-    (window_first code w (length code) summary c.first.result c.first.ensures) in
+    (IsFirstThat-window_first code w (length code) summary c.first.result c.first.ensures) in
     subst (λ k. IsLeastBroken k (record { trigger = t; at = c.words-words.result; condition = Open }))
     c.loop-place.invariant.same
     (subst (λ n. IsLeastBroken code (record { trigger = t; at = n; condition = Open }))
     (sym c.loop-place.invariant.words)
-    (end_least code w t summary (subst (IsUnbroken code) end c.loop-place.invariant.unbroken) first))
+    (IsUnbroken-end_open code w t summary (subst (IsUnbroken code) end c.loop-place.invariant.unbroken) first))

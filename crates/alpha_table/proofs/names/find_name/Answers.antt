@@ -5,7 +5,7 @@ use Rattle.std.proofs.lemmas.Fn.{always_returns_same}
 use Rattle.std.proofs.lemmas.Map.Lookups.{exact_bytes}
 use Rattle.std.proofs.lemmas.Map.Views.{tells_apart}
 use Rattle.alpha_table.specs.Names.{name_of}
-use Rattle.alpha_table.proofs.NameSearches.{names-rise, not_named}
+use Rattle.alpha_table.proofs.NameSearches.{names-rise, name_of-none_equal}
 use Rattle.alpha_table.proofs.names.find_name.Goals as goal
 
 pub returns-in-Ok-clause-found : goal.returns-in-Ok-clause-found
@@ -17,6 +17,6 @@ returns-in-Ok-clause-found c =
 
 pub returns-in-Err-clause-none : goal.returns-in-Err-clause-none
 returns-in-Err-clause-none c =
-    not_named c.args.rows.now c.args.name.now _
+    name_of-none_equal c.args.rows.now c.args.name.now _
     (c.in-Err.ensures.position (λ m. slice_cmp nat_cmp (name_of m) c.args.name.now)
     (always_returns_same _ _ _ (λ a r g called. search rules)) (names-rise c.args.rows.now c.requires c.args.name.now))

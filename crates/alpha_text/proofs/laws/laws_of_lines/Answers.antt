@@ -1,5 +1,5 @@
 use Rattle.alpha_token.specs.Tokens.{tokens}
-use Rattle.alpha_text.proofs.LineFaults.{read-fault, line-clean}
+use Rattle.alpha_text.proofs.LineFaults.{read-fault, IsLine-no_fault}
 use Rattle.alpha_text.proofs.Lines.{read-is}
 use Rattle.alpha_text.proofs.CarriageReturns.{read-with_return}
 use Rattle.alpha_text.proofs.CanonicalLines.{reads_back, canon-injective}
@@ -12,7 +12,7 @@ pub returns-clause-fault : goal.returns-clause-fault
 returns-clause-fault c = read-fault
 
 pub returns-clause-faultless : goal.returns-clause-faultless
-returns-clause-faultless c = λ line. line-clean (tokens line)
+returns-clause-faultless c = λ line. IsLine-no_fault (tokens line)
 
 pub returns-clause-reads_back : goal.returns-clause-reads_back
 returns-clause-reads_back c = reads_back

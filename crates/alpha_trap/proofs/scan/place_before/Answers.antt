@@ -7,9 +7,11 @@ use Rattle.alpha_trap.proofs.scan.place_before.Goals as goal
 
 pub returns-in-Barrier-clause-value : goal.returns-in-Barrier-clause-value
 returns-in-Barrier-clause-value g c =
-    let seen : kind (class_at (g.C.TrapCode.parts c.args.code.now).words (c.loop-place.place - 1)) ≡ Some c.kind.result =
+    let seen : kind (class_at (g.C.TrapCode.parts c.args.code.now).words (c.loop-place.place - 1))
+    ≡ Some c.kind.result =
     ap kind c.in-Some.ensures ∙ ap Some (sym c.kind.ensures) in
-    sym (walked_stop (g.C.TrapCode.parts c.args.code.now).words c.args.mask c.loop-place.left (c.loop-place.place - 1) c.args.end
+    sym (walked_stop (g.C.TrapCode.parts c.args.code.now).words c.args.mask c.loop-place.left
+    (c.loop-place.place - 1) c.args.end
     (walked_next (g.C.TrapCode.parts c.args.code.now).words c.args.mask c.loop-place.left c.loop-place.place c.args.end
     c.loop-place-test.true c.loop-place.invariant)
     (omega arith)
@@ -21,7 +23,8 @@ returns-in-Barrier-clause-value g c =
 pub returns-then-covers-clause-value : goal.returns-then-covers-clause-value
 returns-then-covers-clause-value g c =
     let t = c.in-Some-trigger_of.trigger in
-    let here : class_at (g.C.TrapCode.parts c.args.code.now).words (c.loop-place.place - 1) ≡ Some (trigger t.op t.ra t.src t.rc) =
+    let here : class_at (g.C.TrapCode.parts c.args.code.now).words (c.loop-place.place - 1)
+    ≡ Some (trigger t.op t.ra t.src t.rc) =
     c.in-Some.ensures ∙ ap Some c.in-Some-trigger_of.ensures.found in
     sym (walked_found (g.C.TrapCode.parts c.args.code.now).words c.args.mask c.loop-place.left c.without-left.result
     (c.loop-place.place - 1) c.args.end t.rc
@@ -33,9 +36,12 @@ returns-then-covers-clause-value g c =
 pub loop-place-preserved-else-covers : goal.loop-place-preserved-else-covers
 loop-place-preserved-else-covers g c =
     let t = c.in-Some-trigger_of.trigger in
-    let here : class_at (g.C.TrapCode.parts c.args.code.now).words (c.loop-place.place - 1) ≡ Some (trigger t.op t.ra t.src t.rc) =
+    let here : class_at (g.C.TrapCode.parts c.args.code.now).words (c.loop-place.place - 1)
+    ≡ Some (trigger t.op t.ra t.src t.rc) =
     c.in-Some.ensures ∙ ap Some c.in-Some-trigger_of.ensures.found in
-    let seen : kind (class_at (g.C.TrapCode.parts c.args.code.now).words (c.loop-place.place - 1)) ≡ Some kinds.Trigger = ap kind here in
+    let seen : kind (class_at (g.C.TrapCode.parts c.args.code.now).words (c.loop-place.place - 1))
+    ≡ Some kinds.Trigger =
+    ap kind here in
     walked_trigger (g.C.TrapCode.parts c.args.code.now).words c.args.mask c.loop-place.left c.without-left.result
     (c.loop-place.place - 1) c.args.end t.rc
     (walked_next (g.C.TrapCode.parts c.args.code.now).words c.args.mask c.loop-place.left c.loop-place.place c.args.end

@@ -1,12 +1,13 @@
 use Rattle.std.proofs.Common.{◌≡◌, ◌<◌, ◌+◌, ◌-◌, ◌∙◌, length, take, drop, refl, sym, ap, arith}
 use Rattle.std.proofs.lemmas.Grind.{common_steps}
 use Rattle.std.specs.Str.Lines.{strip_carriage_return}
-use Rattle.alpha_asm.proofs.FirstLine.{first_found, last_found, first_text, front-strip_carriage_return}
+use Rattle.alpha_asm.proofs.FirstLine.{IsFirst-line_feed, IsFirst-no_line_feed, lines-IsFirst}
+use Rattle.alpha_asm.proofs.FirstLine.{front-strip_carriage_return}
 use Rattle.alpha_asm.proofs.lines.Line.first.Goals as goal
 
 pub returns-in-Some-clause-first : goal.returns-in-Some-clause-first
 returns-in-Some-clause-first c =
-    first_found c.args.source.now c.in-Some.n _ c.in-Some.ensures
+    IsFirst-line_feed c.args.source.now c.in-Some.n _ c.in-Some.ensures
     (let e : c.without_return.result.now ≡ strip_carriage_return (take c.in-Some.n c.args.source.now) =
     grind (arith, common_steps) in
     e)
@@ -18,13 +19,14 @@ returns-in-Some-clause-first c =
     e)
 
 pub returns-in-None-clause-first : goal.returns-in-None-clause-first
-returns-in-None-clause-first c = last_found c.args.source.now _ c.requires c.in-None.ensures refl refl refl refl
+returns-in-None-clause-first c =
+    IsFirst-no_line_feed c.args.source.now _ c.requires c.in-None.ensures refl refl refl refl
 
 pub returns-in-Some-clause-lines : goal.returns-in-Some-clause-lines
-returns-in-Some-clause-lines c = first_text c.args.source.now _ (returns-in-Some-clause-first c)
+returns-in-Some-clause-lines c = lines-IsFirst c.args.source.now _ (returns-in-Some-clause-first c)
 
 pub returns-in-None-clause-lines : goal.returns-in-None-clause-lines
-returns-in-None-clause-lines c = first_text c.args.source.now _ (returns-in-None-clause-first c)
+returns-in-None-clause-lines c = lines-IsFirst c.args.source.now _ (returns-in-None-clause-first c)
 
 pub returns-in-Some-clause-front : goal.returns-in-Some-clause-front
 returns-in-Some-clause-front c =

@@ -2,7 +2,7 @@ use Rattle.std.proofs.Common.{length, map}
 use Rattle.alpha_operands.specs.Values.{view}
 use Rattle.alpha_asm.specs.Statement.{cell_of, values_up_to}
 use Rattle.alpha_asm.specs.Patches.{AddsCells}
-use Rattle.alpha_asm.proofs.DataValues.{AddsCells-next_value, last_value, all_values}
+use Rattle.alpha_asm.proofs.DataValues.{AddsCells-next_value, AddsCells-last_value, AddsCells-all_values}
 use Rattle.alpha_asm.proofs.output.Output.push_values.Goals as goal
 
 pub loop-preserved : goal.loop-preserved
@@ -17,7 +17,7 @@ loop-preserved c =
 
 pub returns-in-None : goal.returns-in-None
 returns-in-None c =
-    last_value c.args.line c.args.bytes (length c.args.list.now) c.loop.counter c.loop.rest.now c.loop.self
+    AddsCells-last_value c.args.line c.args.bytes (length c.args.list.now) c.loop.counter c.loop.rest.now c.loop.self
     (λ new. AddsCells c.args.line
     (map (cell_of c.args.bytes) (values_up_to (length c.args.list.now) c.args.bytes c.args.list.now)) c.args.self.now
     new)
@@ -25,7 +25,7 @@ returns-in-None c =
 
 pub returns : goal.returns
 returns c =
-    all_values c.args.line c.args.bytes (length c.args.list.now) c.loop.counter c.loop.rest.now c.loop.self
+    AddsCells-all_values c.args.line c.args.bytes (length c.args.list.now) c.loop.counter c.loop.rest.now c.loop.self
     (λ new. AddsCells c.args.line
     (map (cell_of c.args.bytes) (values_up_to (length c.args.list.now) c.args.bytes c.args.list.now)) c.args.self.now
     new)

@@ -2,7 +2,7 @@ use Rattle.std.proofs.Common.{[], ◌∷◌, ◌++◌, ◌∙◌, ap, sym}
 use Rattle.alpha_text.specs.Reading.{LineStmt}
 use Rattle.alpha_quick.specs.Parts.{unlabelled}
 use Rattle.alpha_asm.specs.LineKinds.{line_kind}
-use Rattle.alpha_asm.proofs.LineRefusals.{long_line, read_insn, insn_at, item_line, next_line}
+use Rattle.alpha_asm.proofs.LineRefusals.{long_line, read_insn, insn_at, item_line, PassSimulates-next_line}
 use Rattle.alpha_asm.proofs.pass.Pass.take_line.Goals as goal
 
 pub returns-then-line-gt-LONGEST_LINE-clause-refused : goal.returns-then-line-gt-LONGEST_LINE-clause-refused
@@ -11,7 +11,7 @@ returns-then-line-gt-LONGEST_LINE-clause-refused c =
 
 pub returns-in_ok-push_insn-in-Ok-take_code-clause-ok : goal.returns-in_ok-push_insn-in-Ok-take_code-clause-ok
 returns-in_ok-push_insn-in-Ok-take_code-clause-ok c = λ is s.
-    next_line c.args.kind is c.args.line.now (unlabelled c.in-Ok.insn) _ _ s
+    PassSimulates-next_line c.args.kind is c.args.line.now (unlabelled c.in-Ok.insn) _ _ s
     (read_insn c.args.line.now c.in-Ok.insn c.in-Ok.ensures.line)
     (c.in-Ok-take_code.ensures.taken c.args.kind) c.in-Ok-take_code.ensures.ok
 

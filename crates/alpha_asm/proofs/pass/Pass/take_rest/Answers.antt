@@ -1,7 +1,7 @@
 use Rattle.std.proofs.Common.{◌∙◌}
 use Rattle.alpha_text.specs.Reading.{line_stmt_of}
 use Rattle.alpha_text.proofs.StatementBounds.{read-within}
-use Rattle.alpha_asm.proofs.LineRefusals.{bad_line, item_line, next_line}
+use Rattle.alpha_asm.proofs.LineRefusals.{bad_line, item_line, PassSimulates-next_line}
 use Rattle.alpha_asm.proofs.pass.Pass.take_rest.Goals as goal
 
 pub take_item-requires-clause-within : goal.take_item-requires-clause-within
@@ -9,7 +9,7 @@ take_item-requires-clause-within c = read-within c.args.line.now (line_stmt_of c
 
 pub returns-in_ok-push-in-Ok-take_item-clause-ok : goal.returns-in_ok-push-in-Ok-take_item-clause-ok
 returns-in_ok-push-in-Ok-take_item-clause-ok c = λ is s.
-    next_line c.args.kind is c.args.line.now
+    PassSimulates-next_line c.args.kind is c.args.line.now
     (line_stmt_of c.in-Ok.item) _ _ s c.in-Ok.ensures c.in-Ok-take_item.ensures.taken c.in-Ok-take_item.ensures.ok
 
 pub returns-in_ok-push-in-Ok-take_item-clause-taken : goal.returns-in_ok-push-in-Ok-take_item-clause-taken

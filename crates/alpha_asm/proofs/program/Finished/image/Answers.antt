@@ -7,7 +7,7 @@ use Rattle.alpha_image.specs.FieldTests.{least_bad_field}
 use Rattle.alpha_asm.specs.declared.fault.AsmFault.TheVariants.{ImageField, Reach}
 use Rattle.alpha_asm.specs.Program.{program_of, program_with, version_of, own_segments}
 use Rattle.alpha_asm.specs.Finished.{finished_numbers, finished_program}
-use Rattle.alpha_asm.proofs.FinishedProgram.{insns_of_words, not_refused}
+use Rattle.alpha_asm.proofs.FinishedProgram.{filter_map-decoded, not_refused}
 use Rattle.alpha_asm.proofs.program.Finished.image.Goals as goal
 
 pub returns-clause-ok : goal.returns-clause-ok
@@ -21,7 +21,7 @@ returns-clause-ok c =
     c.of_program.ensures.parts
     ∙ (ap (λ v. parts_with v (numbers c.own_segments-own.result.now) image.words f.bytes.items) c.version_of.ensures
     ∙ ap (λ s. parts_with (version_of f.level) (numbers s) image.words f.bytes.items) own) in
-    let code = insns_of_words image.words f.code.items c.of_program.ensures.insns in
+    let code = filter_map-decoded image.words f.code.items c.of_program.ensures.insns in
     let same : program_of image ≡ finished_program f =
     ap program_of parts ∙ ap (λ l. program_with (version_of f.level) (finished_numbers f) l f.bytes.items) code in
     not_refused (option_map ImageField (least_bad_field (finished_numbers f)))

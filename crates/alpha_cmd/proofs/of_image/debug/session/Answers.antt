@@ -7,7 +7,7 @@ use Rattle.alpha_request.specs.declared.request.ImageCommand.TheVariants.{Debug}
 use Rattle.alpha_cmd.specs.CommandEffect.{CommandEffect}
 use Rattle.alpha_cmd.specs.OfImage.{on}
 use Rattle.alpha_cmd.proofs.StageEffects.{does_not_start}
-use Rattle.alpha_cmd.proofs.EndStatuses.{input_unended, said_unended}
+use Rattle.alpha_cmd.proofs.EndStatuses.{HasEnded-not_InputFault, HasEnded-not_memory_status}
 use Rattle.alpha_cmd.proofs.InputLeft.{untouched_input}
 use Rattle.alpha_cmd.proofs.SessionsTold.{session_decides, session_whole, session_unread, session_unwritten}
 use Rattle.alpha_cmd.proofs.SessionsTold.{script_left}
@@ -53,7 +53,8 @@ returns-in-TooLarge g c = record {
 
 pub returns-in-InputFault : goal.returns-in-InputFault
 returns-in-InputFault g c = record {
-  ran = λ over. absurd (input_unended c.of_status-in-InputFault.result c.of_status-in-InputFault.ensures.status over);
+  ran = λ over.
+      absurd (HasEnded-not_InputFault c.of_status-in-InputFault.result c.of_status-in-InputFault.ensures.status over);
   ends = inr (inr (inl c.of_status-in-InputFault.ensures.status));
   shelf = refl;
   does =
@@ -99,7 +100,8 @@ returns-in-NoMemory-clause-script g c =
 
 pub returns-in-NoMemory-clause-ran : goal.returns-in-NoMemory-clause-ran
 returns-in-NoMemory-clause-ran g c =
-    λ over. absurd (said_unended c.of_status-in-NoMemory.result c.of_status-in-NoMemory.ensures.status over)
+    λ over.
+    absurd (HasEnded-not_memory_status c.of_status-in-NoMemory.result c.of_status-in-NoMemory.ensures.status over)
 
 pub returns-in-NoMemory-clause-ends : goal.returns-in-NoMemory-clause-ends
 returns-in-NoMemory-clause-ends g c = inr (inl c.of_status-in-NoMemory.ensures.status)

@@ -5,7 +5,7 @@ use Rattle.alpha_table.specs.Decoded.{decoded}
 use Rattle.alpha_table.specs.Encoded.{encoded}
 use Rattle.alpha_image.specs.Parts.{Parts}
 use Rattle.alpha_table.proofs.CodeWords.{class_at-decoded_word, decoded_there, decoded_within}
-use Rattle.alpha_image.proofs.CodeInsns.{encoded_there}
+use Rattle.alpha_image.proofs.CodeInsns.{get_or-map_encoded}
 use Rattle.alpha_image.proofs.image.Image.insn_at.Goals as goal
 
 pub returns-clause-found : goal.returns-clause-found
@@ -28,7 +28,7 @@ returns-clause-word c =
     ap (λ (l : List Form). slice_get l c.args.place) (sym c.deref.ensures.value) ∙ c.insn_in.ensures in
     subst (λ (ws : List ℕ). slice_index ws c.args.place ≡ encoded c.insn_in.result)
     (ap (λ (p : Parts). p.words) c.self.view_is)
-    (encoded_there insns c.args.place c.insn_in.result at)
+    (get_or-map_encoded insns c.args.place c.insn_in.result at)
 
 pub returns-clause-class : goal.returns-clause-class
 returns-clause-class c =

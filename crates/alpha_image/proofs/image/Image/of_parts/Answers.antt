@@ -3,7 +3,7 @@ use Rattle.std.proofs.lemmas.List.{length-map}
 use Rattle.alpha_table.specs.Encoded.{encoded}
 use Rattle.alpha_image.specs.Header.{header_numbers}
 use Rattle.alpha_image.specs.Reading.{numbered_level}
-use Rattle.alpha_image.proofs.CodeInsns.{code_words_of_insns}
+use Rattle.alpha_image.proofs.CodeInsns.{IsCodeWord-map_encoded}
 use Rattle.alpha_image.proofs.ReadSpelling.{IsImage-of_words, numbers-parts_with}
 use Rattle.alpha_image.proofs.image.Image.of_parts.Goals as goal
 
@@ -14,7 +14,7 @@ returns-clause-good c =
     let size : length (map encoded insns) ≡ h.words = length-map insns encoded ∙ c.requires.words in
     IsImage-of_words h.version (header_numbers h)
     (map encoded insns) c.args.bytes.items c.requires.fields c.requires.matches_version size c.requires.filled
-    (code_words_of_insns (numbered_level h.fields.level) insns c.requires.insns).0 c.requires.bytes
+    (IsCodeWord-map_encoded (numbered_level h.fields.level) insns c.requires.insns).0 c.requires.bytes
 
 pub invariant_of-result : goal.invariant_of-result
 invariant_of-result c =
@@ -25,13 +25,13 @@ invariant_of-result c =
       good =
           IsImage-of_words h.version (header_numbers h)
           (map encoded insns) c.args.bytes.items c.requires.fields c.requires.matches_version size c.requires.filled
-          (code_words_of_insns (numbered_level h.fields.level) insns c.requires.insns).0 c.requires.bytes;
+          (IsCodeWord-map_encoded (numbered_level h.fields.level) insns c.requires.insns).0 c.requires.bytes;
       numbers =
           numbers-parts_with h.version (header_numbers h) (map encoded insns) c.args.bytes.items c.requires.fields size;
-      insns = (code_words_of_insns (numbered_level h.fields.level) insns c.requires.insns).1;
+      insns = (IsCodeWord-map_encoded (numbered_level h.fields.level) insns c.requires.insns).1;
       within = omega arith;
     }
 
 pub returns-clause-insns : goal.returns-clause-insns
 returns-clause-insns c =
-    (code_words_of_insns (numbered_level c.args.header.fields.level) c.args.insns.items c.requires.insns).1
+    (IsCodeWord-map_encoded (numbered_level c.args.header.fields.level) c.args.insns.items c.requires.insns).1

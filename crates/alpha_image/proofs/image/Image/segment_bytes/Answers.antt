@@ -4,7 +4,7 @@ use Rattle.std.proofs.lemmas.Option.{slice_get_within}
 use Rattle.alpha_image.specs.declared.segment.Segment.{Segment}
 use Rattle.alpha_image.specs.Layout.{filled_size}
 use Rattle.alpha_image.specs.Parts.{Parts}
-use Rattle.alpha_image.proofs.SegmentShares.{slice_get-pieces_of, no_piece, piece_within}
+use Rattle.alpha_image.proofs.SegmentShares.{slice_get-pieces_of, no_piece, filled_size-take_bound}
 use Rattle.alpha_image.proofs.image.Image.segment_bytes.Goals as goal
 
 pub returns-in_err-segment-clause-value : goal.returns-in_err-segment-clause-value
@@ -20,7 +20,8 @@ split_at-requires-2 c =
     c.data_size_before-before.ensures.value ∙ ap (λ (xs : List Segment). filled_size (take c.args.n xs)) segments in
     let all : length c.data_bytes.result.now ≡ filled_size p.segments =
     ap length c.data_bytes.ensures.value ∙ c.in_ok-segment.ensures.good.filled in
-    let within = piece_within p.segments c.args.n c.in_ok-segment.segment (sym c.in_ok-segment.ensures.value) in
+    let within =
+    filled_size-take_bound p.segments c.args.n c.in_ok-segment.segment (sym c.in_ok-segment.ensures.value) in
     let behind : length c.split_at.result.1.now ≡ length c.data_bytes.result.now - c.data_size_before-before.result =
     ap length c.split_at.ensures.back ∙ length-drop c.data_size_before-before.result c.data_bytes.result.now in
     omega arith

@@ -12,7 +12,7 @@ use Rattle.alpha_link.specs.Made.{symbol_at_location}
 use Rattle.alpha_link.specs.NameKeys.{IsKeyed}
 use Rattle.alpha_link.specs.Numbered.{texts}
 use Rattle.alpha_link.proofs.Ranks.{RanksGrown, grown_new, grown_old, ranks_more}
-use Rattle.alpha_link.proofs.DistinctNames.{distinct_names, some_named, some_unnamed, none_named}
+use Rattle.alpha_link.proofs.DistinctNames.{distinct_names, IfSome-option_map, IfSome-of_option_map, IfNone-option_map}
 use Rattle.alpha_link.proofs.source_symbols.Ranked.build.Goals.{then-is_new+in_ok-rank+in_ok-push, else-is_new}
 use Rattle.alpha_link.proofs.source_symbols.Ranked.build.Goals as goal
 
@@ -69,16 +69,16 @@ loop-keyed_name-preserved c =
           ∙ (c.loop-keyed_name.symbols.ok.0 ∙ sym (length-map c.loop-keyed_name.symbols.items named)))) in
           rw (pushed, w.last-is)
           (grown_new spot ns (option_map named_last before) x.name old c.if-is_new.rank symbols last
-          (some_named named_last (λ b. true ≡ not (bytes_eq x.name.now b.now)) before some) place)
+          (IfSome-option_map named_last (λ b. true ≡ not (bytes_eq x.name.now b.now)) before some) place)
       | else-is_new w ↦
           let some : IfSome before (λ b. false ≡ not (bytes_eq x.name.now b.now.name.now)) =
           rw w.if-is_new.false at c.is_new.ensures.some in
           let nothing : IfNone before (false ≡ true) = rw w.if-is_new.false at c.is_new.ensures.none in
           rw (w.symbols-is, w.last-is, w.rank-is)
           (grown_old spot ns (option_map named_last before) x.name (map named c.loop-keyed_name.symbols.items) rank
-          symbols last (none_named named_last (false ≡ true) before nothing)
-          (some_named named_last (λ b. false ≡ not (bytes_eq x.name.now b.now)) before some)
-          (some_named named_last (λ b. slice_get (texts (distinct_names ns)) rank ≡ Some b.now) before stays))
+          symbols last (IfNone-option_map named_last (false ≡ true) before nothing)
+          (IfSome-option_map named_last (λ b. false ≡ not (bytes_eq x.name.now b.now)) before some)
+          (IfSome-option_map named_last (λ b. slice_get (texts (distinct_names ns)) rank ≡ Some b.now) before stays))
     ] in
     let key : (front : List ℕ) → All (λ k. IsKeyed front k.key k.name.now) ks
     → IfSome c.if-is_new.last (λ k. IsKeyed front k.now.key k.now.name.now) =
@@ -92,7 +92,7 @@ loop-keyed_name-preserved c =
       grown.left,
       key,
       length-set c.loop-keyed_name.ranks.items x.number c.if-is_new.rank ∙ size,
-      some_unnamed named_last
+      IfSome-of_option_map named_last
           (λ b. slice_get (texts (distinct_names (ns ++ x.name ∷ []))) c.if-is_new.rank ≡ Some b.now)
           c.if-is_new.last grown.stays,
       ranks_more names ks i x none c.loop-keyed_name.ranks.items c.if-is_new.rank (distinct_names ns)

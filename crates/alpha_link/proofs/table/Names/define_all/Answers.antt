@@ -12,7 +12,7 @@ use Rattle.alpha_link.specs.Names.{found_in}
 use Rattle.alpha_link.specs.GlobalSymbols.{GlobalSymbol, global_symbols}
 use Rattle.alpha_link.proofs.LoopLists.{position_begins, position_stops, position_goes}
 use Rattle.alpha_link.proofs.NamesApart.{find-IsSymbol, find-next_symbol}
-use Rattle.alpha_link.proofs.AreEntered.{symbol_there}
+use Rattle.alpha_link.proofs.AreEntered.{global_symbols-get_of_module}
 use Rattle.alpha_link.proofs.table.Names.define_all.Goals as goal
 
 pub enter-requires : goal.enter-requires
@@ -27,7 +27,7 @@ enter-requires c =
     ap (λ (xs : List Named). slice_get xs i) (sym same) ∙ c.at-symbol.ensures in
     ap (λ x. slice_get (global_symbols x) c.loop-number.self.row.count) c.loop-number.invariant.places
     ∙ (ap (slice_get es) c.loop-number.invariant.count
-    ∙ (symbol_there es l c.args.self.now.row.count i s c.requires here
+    ∙ (global_symbols-get_of_module es l c.args.self.now.row.count i s c.requires here
     ∙ ap (λ (a : Option ℕ). Some (record { name = s.name; address = a })) (sym c.address.ensures)))
 
 pub loop-number-init : goal.loop-number-init

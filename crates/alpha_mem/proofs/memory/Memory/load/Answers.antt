@@ -2,12 +2,12 @@ use Rattle.std.proofs.Common.{◌≡◌, refl, ap, length, arith}
 use Rattle.std.proofs.lemmas.Bool.{false≢true}
 use Rattle.alpha_mem.specs.Memory.{bytes_at}
 use Rattle.alpha_mem.proofs.Bytes.{length-bytes_at_le}
-use Rattle.alpha_mem.proofs.Faults.{size_of-le, answers_align, answers_none, answers_region}
+use Rattle.alpha_mem.proofs.Faults.{size_of-le, fault_of-judged_align, fault_of-judged_none, fault_of-judged_region}
 use Rattle.alpha_mem.proofs.memory.Memory.load.Goals as goal
 
 pub returns-then-addr-len-ne0-clause-fault : goal.returns-then-addr-len-ne0-clause-fault
 returns-then-addr-len-ne0-clause-fault c =
-    answers_align _ _ _ _ _ c.bytes-len.ensures c.if-addr-len-ne0.true
+    fault_of-judged_align _ _ _ _ _ c.bytes-len.ensures c.if-addr-len-ne0.true
 
 pub number_of-requires : goal.number_of-requires
 number_of-requires c =
@@ -22,10 +22,12 @@ number_of-requires c =
 
 pub returns-in-Some-clause-fault : goal.returns-in-Some-clause-fault
 returns-in-Some-clause-fault c =
-    answers_none _ _ _ _ c.args.size c.bytes-bytes.ensures.good.layout c.bytes-len.ensures c.if-addr-len-ne0.false
+    fault_of-judged_none _ _ _ _ c.args.size c.bytes-bytes.ensures.good.layout c.bytes-len.ensures
+    c.if-addr-len-ne0.false
     (c.in-Some.ensures.none.0 refl)
 
 pub returns-in-None-clause-fault : goal.returns-in-None-clause-fault
 returns-in-None-clause-fault c =
-    answers_region _ _ _ _ c.args.size c.bytes-bytes.ensures.good.layout c.bytes-len.ensures c.if-addr-len-ne0.false
+    fault_of-judged_region _ _ _ _ c.args.size c.bytes-bytes.ensures.good.layout c.bytes-len.ensures
+    c.if-addr-len-ne0.false
     (λ h. false≢true (c.in-None.ensures.none.1 h))

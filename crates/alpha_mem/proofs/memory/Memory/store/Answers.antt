@@ -5,7 +5,7 @@ use Rattle.alpha_mem.specs.Size.{size_of}
 use Rattle.alpha_mem.specs.Block.{Block, shapes}
 use Rattle.alpha_mem.specs.Memory.{write_bytes, IsLayout, IsMemory}
 use Rattle.alpha_mem.proofs.Numbers.{low_bytes-byte}
-use Rattle.alpha_mem.proofs.Faults.{answers_align, answers_none, answers_region}
+use Rattle.alpha_mem.proofs.Faults.{fault_of-judged_align, fault_of-judged_none, fault_of-judged_region}
 use Rattle.alpha_mem.proofs.BlockPlaces.{place-spans-at_position}
 use Rattle.alpha_mem.proofs.Bytes.{shapes-write_bytes}
 use Rattle.alpha_mem.proofs.Memories.{IsMemory-write_bytes}
@@ -17,7 +17,7 @@ layout same = subst (λ m. IsLayout (shapes m)) same
 
 pub returns-then-addr-len-ne0-clause-fault : goal.returns-then-addr-len-ne0-clause-fault
 returns-then-addr-len-ne0-clause-fault c =
-    answers_align _ _ _ _ _ c.bytes-len.ensures c.if-addr-len-ne0.true
+    fault_of-judged_align _ _ _ _ _ c.bytes-len.ensures c.if-addr-len-ne0.true
 
 pub put_number-requires : goal.put_number-requires
 put_number-requires c =
@@ -44,7 +44,7 @@ invariant_of-self c =
 
 pub returns-in-Some-clause-fault : goal.returns-in-Some-clause-fault
 returns-in-Some-clause-fault c =
-    answers_none _ _ _ _ c.args.size
+    fault_of-judged_none _ _ _ _ c.args.size
     (layout c.self.view_is c.self.invariant.layout) c.bytes-len.ensures c.if-addr-len-ne0.false
     (store_there _ _ _ _ c.args.size _
     (c.as_slice.ensures.value ∙ c.self.view_is) c.bytes-len.ensures c.in-Some.ensures)
@@ -63,5 +63,5 @@ pub returns-in-None-clause-fault : goal.returns-in-None-clause-fault
 returns-in-None-clause-fault c =
     let no = store_there _ _ _ _ c.args.size _
     (c.as_slice.ensures.value ∙ c.self.view_is) c.bytes-len.ensures c.in-None.ensures in
-    answers_region _ _ _ _ c.args.size (layout c.self.view_is c.self.invariant.layout) c.bytes-len.ensures
+    fault_of-judged_region _ _ _ _ c.args.size (layout c.self.view_is c.self.invariant.layout) c.bytes-len.ensures
     c.if-addr-len-ne0.false (λ yes. false≢true (sym no ∙ yes))

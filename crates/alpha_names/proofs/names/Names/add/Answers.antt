@@ -4,7 +4,7 @@ use Rattle.std.specs.Borrow.{Bor}
 use Rattle.std.specs.Str.{bytes_eq}
 use Rattle.alpha_names.specs.Finder.{number_in, is_named, Grows}
 use Rattle.alpha_names.specs.Names.{AreFoundBy}
-use Rattle.alpha_names.proofs.NumberedNames.{is_position, AreFoundBy-next, found_still, none_found}
+use Rattle.alpha_names.proofs.NumberedNames.{number_in-position, AreFoundBy-next, found_still, is_none-true_none}
 use Rattle.alpha_names.proofs.names.Names.add.Goals as goal
 
 pub invariant_of-self : goal.invariant_of-self
@@ -19,7 +19,7 @@ returns-then-not-branch-clause-value c =
     let name : List ℕ = c.args.name.now in
     sym c.if-not-branch.true ∙ (c.in_ok-add.ensures.value
     ∙ ap is_none
-    (is_position c.self.inside.names.items c.self.inside.numbers c.self.invariant name
+    (number_in-position c.self.inside.names.items c.self.inside.numbers c.self.invariant name
     ∙ ap (position (bytes_eq name)) c.self.view_is))
 
 pub invariant_of-self-in_err-push : goal.invariant_of-self-in_err-push
@@ -32,7 +32,7 @@ invariant_of-self-in_err-push c =
     let Q : ℕ → Type 0 = λ n. Grows old new name n in
     let size : c.len.result ≡ length items = omega (arith, c.len.ensures, c.self.inside.names.ok.0) in
     let absent : old (is_named items name) name ≡ None =
-    none_found (old (is_named items name) name) (sym c.if-not-branch.false ∙ c.in_ok-add.ensures.value) in
+    is_none-true_none (old (is_named items name) name) (sym c.if-not-branch.false ∙ c.in_ok-add.ensures.value) in
     subst P (sym c.in_err-push.ensures.items)
     (found_still items name old new c.self.invariant absent
     (subst Q size (c.in_ok-add.ensures.ok c.if-not-branch.false)))
@@ -47,7 +47,7 @@ invariant_of-self-2 c =
     let Q : ℕ → Type 0 = λ n. Grows old new name n in
     let size : c.len.result ≡ length items = omega (arith, c.len.ensures, c.self.inside.names.ok.0) in
     let absent : old (is_named items name) name ≡ None =
-    none_found (old (is_named items name) name) (sym c.if-not-branch.false ∙ c.in_ok-add.ensures.value) in
+    is_none-true_none (old (is_named items name) name) (sym c.if-not-branch.false ∙ c.in_ok-add.ensures.value) in
     subst P (sym c.in_ok-push.ensures.items)
     (AreFoundBy-next items c.args.name old new c.self.invariant absent
     (subst Q size (c.in_ok-add.ensures.ok c.if-not-branch.false)))
@@ -57,5 +57,5 @@ returns-clause-value c =
     let name : List ℕ = c.args.name.now in
     sym c.if-not-branch.false ∙ (c.in_ok-add.ensures.value
     ∙ ap is_none
-    (is_position c.self.inside.names.items c.self.inside.numbers c.self.invariant name
+    (number_in-position c.self.inside.names.items c.self.inside.numbers c.self.invariant name
     ∙ ap (position (bytes_eq name)) c.self.view_is))

@@ -1,14 +1,14 @@
 use Rattle.std.proofs.Common.{◌≡◌, ◌+◌, ◌-◌, ◌/◌, ◌%◌, ◌^◌, sym, ap, ◌∙◌, ℕ, arith}
 use Rattle.alpha_names.specs.Tree.{slot_in, seek, met}
 use Rattle.alpha_names.specs.declared.tree.Slot.{Slot}
-use Rattle.alpha_names.proofs.TreeSearches.{seek_next, seek_in_is, met_free, met_taken, met_else, seek_none}
+use Rattle.alpha_names.proofs.TreeSearches.{seek_next, seek_in-seek, met_free, met_taken, met_else, seek-zero}
 use Rattle.alpha_names.proofs.tree.Tree.seek.Goals as goal
 
 pub loop-level-init : goal.loop-level-init
 loop-level-init c =
     record {
       in_range = omega (arith, c.ranges.hash.fits);
-      same = sym (seek_in_is (slot_in c.args.self.now) c.args.hash);
+      same = sym (seek_in-seek (slot_in c.args.self.now) c.args.hash);
     }
 
 pub returns-then-slot-eq0-clause-value : goal.returns-then-slot-eq0-clause-value
@@ -55,6 +55,6 @@ loop-level-preserved c =
 
 pub returns-clause-value : goal.returns-clause-value
 returns-clause-value c =
-    sym (seek_none (slot_in c.args.self.now) (c.args.hash % 2 ^ 32) (20 - c.loop-level._level) c.loop-level.path
+    sym (seek-zero (slot_in c.args.self.now) (c.args.hash % 2 ^ 32) (20 - c.loop-level._level) c.loop-level.path
     c.loop-level.place (omega (arith, c.loop-level-test.false, c.loop-level.auto._level-end)))
     ∙ c.loop-level.invariant.same

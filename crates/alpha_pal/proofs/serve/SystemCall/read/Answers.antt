@@ -1,6 +1,6 @@
 use Rattle.std.proofs.Common.{refl}
 use Rattle.alpha_io.specs.Supply.{supply}
-use Rattle.alpha_pal.proofs.SystemCalls.{read_bad_descriptor, read_bad_range, read_done, read_failed, false_with}
+use Rattle.alpha_pal.proofs.SystemCalls.{read_bad_descriptor, read_bad_range, read_done, read_failed, IsTrue-false_iff}
 use Rattle.alpha_pal.proofs.serve.SystemCall.read.Goals as goal
 
 pub returns-then-self-ne-INPUT-clause-effect : goal.returns-then-self-ne-INPUT-clause-effect
@@ -11,7 +11,7 @@ returns-then-self-ne-INPUT-clause-effect g c =
 pub returns-then-not-can_write-clause-effect : goal.returns-then-not-can_write-clause-effect
 returns-then-not-can_write-clause-effect g c =
     λ written. read_bad_range c.args.self c.args.mem.now (supply g.S.Source c.args.input.now) written c.requires
-    c.if-self-ne-INPUT.false (false_with _ _ c.can_write.ensures.value c.if-not-can_write.true)
+    c.if-self-ne-INPUT.false (IsTrue-false_iff _ _ c.can_write.ensures.value c.if-not-can_write.true)
 
 pub returns-in-Ok-clause-effect : goal.returns-in-Ok-clause-effect
 returns-in-Ok-clause-effect g c =

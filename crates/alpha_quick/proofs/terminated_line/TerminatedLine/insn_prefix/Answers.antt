@@ -7,7 +7,8 @@ use Rattle.alpha_text.specs.SuffixWords.{Says}
 use Rattle.alpha_text.specs.Statements.{code}
 use Rattle.alpha_quick.specs.InsnPrefix.{PrefixSays, HasStatement}
 use Rattle.alpha_quick.specs.TerminatedLine.{rest_from}
-use Rattle.alpha_quick.proofs.LexemeMeanings.{IfSome-implied, leads_as, whole_leads, SaysBy-insn, SaysBy-pseudo_op}
+use Rattle.alpha_quick.proofs.LexemeMeanings.{IfSome-implied, PrefixSays-weaker, PrefixSays-insn, SaysBy-insn}
+use Rattle.alpha_quick.proofs.LexemeMeanings.{SaysBy-pseudo_op}
 use Rattle.alpha_quick.proofs.Parts.{line_of-named}
 use Rattle.alpha_quick.proofs.terminated_line.TerminatedLine.insn_prefix.Goals as goal
 
@@ -21,7 +22,7 @@ returns-in-Some c =
     ≡ tokens (name_of c.in-Some.row ++ rest_from c.args.self.now c.in_ok-end.end) =
     ap tokens (c.in_ok-end.ensures.key (name_of row) c.in-Some.ensures) in
     IfSome-implied (PrefixSays (Says row words)) (PrefixSays (HasStatement (rest_from s c.args.start))) c.of_row.result
-    (λ l h. leads_as (Says row words) (HasStatement (rest_from s c.args.start)) l
+    (λ l h. PrefixSays-weaker (Says row words) (HasStatement (rest_from s c.args.start)) l
     (λ t k. line_of-named (rest_from s c.args.start) (name_of row) (rest_from s end) t line (
       heads.Insn row,
       refl,
@@ -35,7 +36,7 @@ returns-in_ok-insn-in-None c =
     let end = c.in_ok-end.end in
     let words = rest_from s c.in_ok-words.words in
     let (pseudo_op, is, stands) = c.in_ok-insn-in-None.ensures in
-    whole_leads (HasStatement (rest_from s c.args.start)) c.without_label.result c.in_ok-insn-in-None.insn
+    PrefixSays-insn (HasStatement (rest_from s c.args.start)) c.without_label.result c.in_ok-insn-in-None.insn
     c.without_label.ensures.insn
     c.without_label.ensures.whole
     (line_of-named (rest_from s c.args.start) (pseudo_op_name pseudo_op) (rest_from s end)

@@ -2,7 +2,7 @@ use Rattle.alpha_text.specs.Statements.{code}
 use Rattle.alpha_quick.specs.InsnPrefix.{PrefixSays, HasStatement}
 use Rattle.alpha_quick.specs.Prescanned.{IsPrescanned}
 use Rattle.alpha_quick.specs.TerminatedLine.{rest_from, line_text}
-use Rattle.alpha_quick.proofs.LexemeMeanings.{IfOk-implied, IfErr-implied, leads_as}
+use Rattle.alpha_quick.proofs.LexemeMeanings.{IfOk-implied, IfErr-implied, PrefixSays-weaker}
 use Rattle.alpha_quick.proofs.Parts.{HasStatement-same}
 use Rattle.alpha_quick.proofs.terminated_line.TerminatedLine.read.Goals as goal
 
@@ -13,7 +13,7 @@ returns-in-Some-clause-ok c =
     let prefix = c.in-Some.prefix in
     IfOk-implied (λ i. (line : _) → PrefixSays (HasStatement line) prefix → HasStatement line (code i))
     (λ i. HasStatement line (code i)) c.insn_alone.result
-    (λ i says. says line (leads_as (HasStatement rest) (HasStatement line) prefix
+    (λ i says. says line (PrefixSays-weaker (HasStatement rest) (HasStatement line) prefix
     (HasStatement-same line rest c.text_start-start.ensures.line) c.in-Some.ensures)) c.insn_alone.ensures.ok
 
 pub returns-in-Some-clause-left : goal.returns-in-Some-clause-left
@@ -23,5 +23,5 @@ returns-in-Some-clause-left c =
     let prefix = c.in-Some.prefix in
     IfErr-implied (λ p. (line : _) → PrefixSays (HasStatement line) prefix → IsPrescanned line p)
     (IsPrescanned line) c.insn_alone.result
-    (λ p says. says line (leads_as (HasStatement rest) (HasStatement line) prefix
+    (λ p says. says line (PrefixSays-weaker (HasStatement rest) (HasStatement line) prefix
     (HasStatement-same line rest c.text_start-start.ensures.line) c.in-Some.ensures)) c.insn_alone.ensures.left

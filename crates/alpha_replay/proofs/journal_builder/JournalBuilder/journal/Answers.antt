@@ -1,7 +1,7 @@
 use Rattle.std.proofs.Common.{false, sym, subst, List, arith}
 use Rattle.alpha_replay.specs.declared.item.Item.{Item}
 use Rattle.alpha_replay.specs.Journal.{IsJournal, parts}
-use Rattle.alpha_replay.proofs.GatheredCounts.{units-closed, fits_closed, merged_closed}
+use Rattle.alpha_replay.proofs.GatheredCounts.{units-closed, FitsItem-closed_by, merged_closed}
 use Rattle.alpha_replay.proofs.journal_builder.JournalBuilder.journal.Goals as goal
 
 pub of_parts-requires : goal.of_parts-requires
@@ -15,7 +15,7 @@ of_parts-requires c =
       input = o.taken;
       output = o.written;
       items =
-          fits_closed t.items.items t.ones
+          FitsItem-closed_by t.items.items t.ones
           (let u = units-closed t.items.items t.ones in omega (arith, u, o.units, o.few)) o.fits;
       merged = merged_closed false t.items.items t.ones o.merged;
       few_input = o.input;

@@ -4,7 +4,8 @@ use Rattle.alpha_replay.specs.declared.item.Item.{Item}
 use Rattle.alpha_replay.specs.declared.item.Item.TheVariants.{Units}
 use Rattle.alpha_replay.specs.Items.{units_of, FitsItem, AreMerged}
 use Rattle.alpha_replay.specs.GatheredItems.{closed_by}
-use Rattle.alpha_replay.proofs.GatheredCounts.{item_units-append, units-closed, fits_item, merged_closed, merged_item}
+use Rattle.alpha_replay.proofs.GatheredCounts.{item_units-append, units-closed, FitsItem-closed_by_push, merged_closed}
+use Rattle.alpha_replay.proofs.GatheredCounts.{merged_item}
 use Rattle.alpha_replay.proofs.journal_builder.JournalBuilder.note_item.Goals as goal
 
 pub invariant_of-self : goal.invariant_of-self
@@ -33,7 +34,7 @@ invariant_of-self c =
       holds = omega (arith, c.push_reserved.ensures.capacity, c.close.ensures.capacity, old.holds);
       fits =
           subst (λ (l : List Item). All FitsItem l) (sym is)
-          (fits_item t.items.items t.ones c.args.item
+          (FitsItem-closed_by_push t.items.items t.ones c.args.item
           (let u = units-closed t.items.items t.ones in omega (arith, u, old.units, old.few)) old.fits c.requires.fits);
       merged =
           subst (λ (l : List Item). AreMerged false (l ++ Units 1 ∷ [])) (sym is)

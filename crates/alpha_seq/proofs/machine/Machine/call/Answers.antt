@@ -10,7 +10,7 @@ use Rattle.alpha_seq.specs.State.{Barriered, Ends}
 use Rattle.alpha_seq.specs.Step.{next_pc, lock_after}
 use Rattle.alpha_seq.specs.Devices.{drawn}
 use Rattle.alpha_seq.specs.Machine.{program_of, state_of}
-use Rattle.alpha_seq.proofs.PalCallSteps.{called_machine, call-continues, call-exits, call-signals, call-breaks}
+use Rattle.alpha_seq.proofs.PalCallSteps.{called_machine, call-continues, call-exits, call-signals, call-fails}
 use Rattle.alpha_seq.proofs.ExecutedInsns.{called-kernel}
 use Rattle.alpha_seq.proofs.StepsMade.{MakesStep-effect}
 use Rattle.alpha_seq.proofs.machine.Machine.call.Goals as goal
@@ -78,7 +78,7 @@ returns-in_err-end-clause-broken g c =
     let did = c.in_err-end.ensures in
     let p = err_from_is_err_and c.from_residual.result c.from_residual.ensures.1 in
     rw (p.1, p.2)
-    (call-breaks c.args.function m n.self n.regs n.mem n.unique (supply g.S.Source c.args.input.now)
+    (call-fails c.args.function m n.self n.regs n.mem n.unique (supply g.S.Source c.args.input.now)
     (supply g.S.Source n.input) (g.K.Sink.written c.args.out.now) (g.K.Sink.written n.out)
     (g.S.Source.faults c.args.input.now) (g.S.Source.faults n.input) (g.K.Sink.faults c.args.out.now)
     (g.K.Sink.faults n.out)

@@ -1,6 +1,6 @@
 use Rattle.std.proofs.Common.{◌+◌, ◌∙◌, length, ap, sym, subst, arith}
 use Rattle.alpha_shadow.specs.NoTrigger.{IsNoTrigger, AreNoTriggers}
-use Rattle.alpha_shadow.proofs.NextTriggers.{quiet_more}
+use Rattle.alpha_shadow.proofs.NextTriggers.{AreNoTriggers-next}
 use Rattle.alpha_shadow.proofs.fetch.Fetch.next_trigger.Goals as goal
 
 pub loop-place-preserved : goal.loop-place-preserved
@@ -19,6 +19,6 @@ loop-place-preserved g c =
       words = c.loop-place.invariant.words ∙ ap length (sym same);
       quiet =
           subst (λ k. AreNoTriggers k c.args.from (at + 1)) (sym same)
-          (quiet_more code c.args.from at c.loop-place.invariant.quiet here);
+          (AreNoTriggers-next code c.args.from at c.loop-place.invariant.quiet here);
       looked = let n = c.insn-insn.ensures.count in let f = c.loop-place.invariant.looked in omega arith;
     }

@@ -1,5 +1,5 @@
-use Rattle.alpha_table.proofs.InsnForms.{known-stands}
+use Rattle.alpha_table.proofs.InsnForms.{IsKnown-Row}
 use Rattle.alpha_table.proofs.insn.Insn.form.Goals as goal
 
 pub form_in-requires : goal.form_in-requires
-form_in-requires c = (known-stands c.self.inside c.self.invariant).1
+form_in-requires c = (IsKnown-Row c.self.inside c.self.invariant).1

@@ -1,5 +1,5 @@
 use Rattle.alpha_table.specs.declared.form.Form.TheVariants.{Operate}
-use Rattle.alpha_table.proofs.DecodedInsns.{same_insn}
+use Rattle.alpha_table.proofs.DecodedInsns.{Row-deterministic}
 use Rattle.alpha_table.proofs.InsnForms.{Row-Decodes}
 use Rattle.alpha_table.proofs.insn.Insn.operate.Goals as goal
 
@@ -9,5 +9,5 @@ at-requires c =
 
 pub returns : goal.returns
 returns c =
-    same_insn c.operate.result c.at.result (Operate c.args.op c.args.ra c.args.src c.args.rc) c.at.ensures
+    Row-deterministic c.operate.result c.at.result (Operate c.args.op c.args.ra c.args.src c.args.rc) c.at.ensures
     (c.operate.ensures)

@@ -14,7 +14,7 @@ use Rattle.alpha_imprecise.specs.ImpreciseStepEffect.{ImpreciseStateAfterFault}
 use Rattle.alpha_imprecise.proofs.ChoiceRequests.{exact-chose, value-chose}
 use Rattle.alpha_imprecise.proofs.RunConcatenation.{unused_device, idle_sink, steps_alone-join}
 use Rattle.alpha_imprecise.proofs.NextInsns.{triggers-here}
-use Rattle.alpha_imprecise.proofs.step.with_none.Goals as goal
+use Rattle.alpha_imprecise.proofs.step.step_with_none_pending.Goals as goal
 
 pub precise-requires-clause-exact : goal.precise-requires-clause-exact
 precise-requires-clause-exact g c =

@@ -1,7 +1,7 @@
 use Rattle.std.proofs.Common.{sym}
 use Rattle.alpha_asm.specs.Bases.{known_of}
 use Rattle.alpha_asm.proofs.PutAddresses.{PutUpTo-next, next_patch}
-use Rattle.alpha_asm.proofs.bases.put_all.Goals as goal
+use Rattle.alpha_asm.proofs.bases.put_addresses.Goals as goal
 
 pub loop-patch-preserved : goal.loop-patch-preserved
 loop-patch-preserved c =

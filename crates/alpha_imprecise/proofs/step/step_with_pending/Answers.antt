@@ -3,7 +3,7 @@ use Rattle.alpha_table.specs.ClassOf.{class_of}
 use Rattle.alpha_imprecise.specs.ImpreciseState.{imprecise_state}
 use Rattle.alpha_imprecise.specs.ImpreciseStepEffect.{StepsAs}
 use Rattle.alpha_imprecise.proofs.ChoiceRequests.{pick-chose, forced-chose}
-use Rattle.alpha_imprecise.proofs.step.with_trap.Goals as goal
+use Rattle.alpha_imprecise.proofs.step.step_with_pending.Goals as goal
 
 pub returns-in-Some-pick-clause-made : goal.returns-in-Some-pick-clause-made
 returns-in-Some-pick-clause-made g c =

@@ -1,6 +1,6 @@
 use Rattle.alpha_asm.specs.Bases.{known_of}
 use Rattle.alpha_asm.proofs.PutAddresses.{PutUpTo}
-use Rattle.alpha_asm.proofs.bases.put_all.Given as goal
+use Rattle.alpha_asm.proofs.bases.put_addresses.Given as goal
 
 abbrev pub invariant-loop-patch : goal.invariant-loop-patch
 invariant-loop-patch l =

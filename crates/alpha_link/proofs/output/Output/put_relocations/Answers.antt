@@ -3,7 +3,7 @@ use Rattle.alpha_link.specs.declared.relocation.Relocation.{Relocation}
 use Rattle.alpha_link.specs.Parts.{ModuleParts}
 use Rattle.alpha_link.specs.Linked.{Located, is_in_range}
 use Rattle.alpha_link.proofs.LoopLists.{position_begins}
-use Rattle.alpha_link.proofs.output.Output.put_all.Goals as goal
+use Rattle.alpha_link.proofs.output.Output.put_relocations.Goals as goal
 
 pub loop-number-init : goal.loop-number-init
 loop-number-init c = record {

@@ -3,7 +3,7 @@ use Rattle.std.specs.Prelude.{position}
 use Rattle.std.specs.List.{position_from}
 use Rattle.alpha_link.specs.Linked.{is_in_range}
 use Rattle.alpha_link.specs.Output.{code_with_all, bytes_with_all}
-use Rattle.alpha_link.proofs.output.Output.put_all.Given as goal
+use Rattle.alpha_link.proofs.output.Output.put_relocations.Given as goal
 
 abbrev pub invariant-loop-number : goal.invariant-loop-number
 invariant-loop-number l = record {
