@@ -205,8 +205,8 @@ class Held:
         return self.with_(not self.is_forced, status=("Done", 7777)) if self.is_run and self.own[0] == "Done" else None
 
     def denied(self):
-        """A status that no end has. Of a run whose choices are a file's nothing is said then."""
-        return self.with_(self.has_choices or self.case.kind in ("check", "trial"), status=SHELF)
+        """A status that no end has."""
+        return self.with_(self.case.kind in ("check", "trial"), status=SHELF)
 
     def refused(self):
         return self.with_(self.denied()[1], status=("NotRestartable", 0))

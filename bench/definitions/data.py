@@ -22,7 +22,7 @@ DOMAINS = {
     "RestartsFrom.steps": "given['steps']",
     "ReadsImage.image": "given['images']", "IsReadWhole.pieces": "given['pieces']",
     "RanTold.image": "given['images']", "Alike.image": "given['images']", "EndsWhere.image": "given['images']",
-    "ListsFile.image": "given['images']", "EndsWherePlan.image": "given['images']",
+    "ListsFile.image": "given['images']", "EndsWherePlan.plan": "given['plans']",
     "EndsAsRun.image": "given['images']",
     # The file is one of the words.
     "Ran.file": "{words}", "Alike.file": "{words}", "Checked.file": "{words}", "Restarts.file": "{words}",
