@@ -116,7 +116,7 @@ def sets_pointer(text, place):
 
 def moved(old, pairs):
     """Where words move: what is reckoned from places of code, which comes out otherwise."""
-    section = ".text"
+    section, sections = ".text", set(old.sections)
     for statement in old.given:
         if statement.name in codes.SECTIONS or statement.name == ".section":
             section = old.switched(statement, section, section)
@@ -124,19 +124,19 @@ def moved(old, pairs):
                 statement.name.startswith(codes.SILENT) and statement.name not in codes.ASSIGNMENTS):
             continue
         for text in statement.operands:
-            if not stays(old, pairs, statement, text):
+            if not stays(old, pairs, statement, text, section not in sections):
                 yield f"line {statement.line}: `{text}` is reckoned from where words stand, and they move"
     for place in sorted(pairs):
         if reckons(old, place):
             yield f"line {old.statement(place).line}: an address of code is reckoned with, and words move"
 
 
-def stays(old, pairs, statement, text):
-    """Whether an expression says the same where words move."""
+def stays(old, pairs, statement, text, is_still):
+    """Whether an expression says the same where words move. In a section without any, `.` is where it was."""
     names = [name for name in codes.NAMES.findall(text) if name in old.labels]
     is_branch = statement.name in table.BRANCH.values()
     if DOT.search(text) and statement.operands[1:] != ["."]:
-        return is_branch
+        return is_branch or is_still and not names
     if not names:
         return True
     expression = gas.expression_of(codes.BASE.sub("", text))
