@@ -22,12 +22,12 @@
 //! | `call WORDS` | a call of the program, which the lines below speak of |
 //! | `for W ..` | the call is made for each of these, in place of `%` in its words |
 //! | `input TEXT`, `inputhex HEX` | the bytes of the input, TEXT as in `spelled`; none where they are left out |
-//! | `script`, with lines, `step-given_taken N` | so much more of the input: these lines, so many line feeds |
+//! | `script`, with lines, `feeds N` | so much more of the input: these lines, so many line feeds |
 //! | `piece N` | how many bytes of the input one call gives at most |
 //! | `fails DEVICE N ..` | the calls of the shelf, the input, the output or the notes that fail, from 0 on |
 //! | `status N` | the number of the status, and with `drawn D` how many words were drawn |
 //! | `says N LINE` | the number of the status, and the only line of the notes |
-//! | `out`, with lines, `recording-WritesLines TEXT`, `outhex HEX` | all of the output, TEXT as in `spelled`; nothing
+//! | `out`, with lines, `writes TEXT`, `outhex HEX` | all of the output, TEXT as in `spelled`; nothing
 //! where it is left out |
 //! | `notes`, with lines | all of the notes; nothing where they are left out |
 //! | `keeps FILE SAME` | afterwards the file holds the bytes of this other one |
