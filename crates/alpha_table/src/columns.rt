@@ -148,11 +148,11 @@ pub fn sets(i: &Insn) -> Option<Reg>
     ensures value { result ≡ sets_of i.now }
     ensures bound { IfSome result (λ r. r < 31) }
 {
-    written_register(i).filter(|r| r.number() < 31)
+    destination_field(i).filter(|r| r.number() < 31)
 }
 
 // The same, but that R31 may stand where there is none.
-fn written_register(i: &Insn) -> Option<Reg>
+fn destination_field(i: &Insn) -> Option<Reg>
     ensures { but_zero result ≡ sets_of i.now }
 {
     match i.form() {

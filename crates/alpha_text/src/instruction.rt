@@ -47,7 +47,7 @@ fn register(written: Option<Reg>, none: Reg) -> Reg
 }
 
 // A register, R31 where none is written.
-pub(crate) fn reg(written: Option<Reg>) -> Reg
+pub(crate) fn reg_or_r31(written: Option<Reg>) -> Reg
     ensures value { result ≡ reg written }
     ensures bound { result < 32 }
 {
@@ -90,8 +90,8 @@ fn displacement(number: Option<Number>) -> i16
 fn memory<'a>(op: MemOp, o: &Operands<'a>) -> Statement<'a>
     ensures { stmt_of result ≡ memory_stmt op (slots o.now) (slots o.now).label }
 {
-    let ra = reg(o.ra);
-    let rb = reg(o.rb);
+    let ra = reg_or_r31(o.ra);
+    let rb = reg_or_r31(o.rb);
     match o.label {
         Some(label) => {
             let insn = insn(Form::Mem {
@@ -190,7 +190,7 @@ fn jump(kind: JumpKind, o: &Operands<'_>) -> Insn
     requires { IfSome o.now.number IsNumber }
     ensures { result ≡ jump_form kind (slots o.now) }
 {
-    let ra = reg(o.ra);
+    let ra = reg_or_r31(o.ra);
     let rb = register(o.rb, return_register());
     let hint = jump_hint(o.rb, o.number);
     insn(Form::Jump { kind, ra, rb, hint })
@@ -203,7 +203,7 @@ fn source(number: Option<Number>, rb: Option<Reg>) -> Src
 {
     match number {
         Some(Number::Literal(n)) => Src::Lit(n),
-        _ => Src::Reg(reg(rb)),
+        _ => Src::Reg(reg_or_r31(rb)),
     }
 }
 
@@ -229,10 +229,10 @@ pub fn of_no_source(op: Op, rc: Reg) -> Insn
 fn operate(op: Op, o: &Operands<'_>) -> Insn
     ensures { result ≡ operate_form (op_row op).operands op (slots o.now) }
 {
-    let rc = reg(o.rc);
+    let rc = reg_or_r31(o.rc);
     match op.row().operands {
         OperandRule::Any => {
-            let ra = reg(o.ra);
+            let ra = reg_or_r31(o.ra);
             let src = source(o.number, o.rb);
             insn(Form::Operate { op, ra, src, rc })
         }
@@ -241,7 +241,7 @@ fn operate(op: Op, o: &Operands<'_>) -> Insn
             of_zero(op, src, rc)
         }
         OperandRule::UnaryRegister => {
-            let src = Src::Reg(reg(o.rb));
+            let src = Src::Reg(reg_or_r31(o.rb));
             of_zero(op, src, rc)
         }
         OperandRule::Version => of_no_source(op, rc),
@@ -260,7 +260,7 @@ pub(crate) fn of_insn<'a>(mnemonic: Mnemonic, o: &Operands<'a>) -> Statement<'a>
         Mnemonic::Operate(op) => Statement::Code(operate(op, o)),
         Mnemonic::Misc(op) => Statement::Code(insn(Form::Misc(op))),
         Mnemonic::Fetch { modify } => {
-            let rb = reg(o.rb);
+            let rb = reg_or_r31(o.rb);
             Statement::Code(insn(Form::Fetch { modify, rb }))
         }
         Mnemonic::Pal(call) => Statement::Code(insn(Form::Pal(call))),

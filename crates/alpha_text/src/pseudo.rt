@@ -8,7 +8,7 @@ ghost use Rattle.alpha_operands.specs.Operands.{slots};
 ghost use Rattle.alpha_text.specs.Statements.{call_in, move_number, move_form, of_zero, operation_of, pseudo_form};
 
 use crate::head::PseudoOp;
-use crate::instruction::{insn, of_zero, reg, reg_of_number};
+use crate::instruction::{insn, of_zero, reg_of_number, reg_or_r31};
 use alpha_operands::{Number, Operands};
 use alpha_table::{Form, Insn, MemOp, Op, Src};
 use alpha_words::{PalCall, Reg};
@@ -18,8 +18,8 @@ fn of_register(op: Op, o: &Operands<'_>) -> Insn
     requires { (op_row op).operands ≡ Any }
     ensures { result ≡ of_zero op (slots o.now) }
 {
-    let src = Src::Reg(reg(o.rb));
-    let rc = reg(o.rc);
+    let src = Src::Reg(reg_or_r31(o.rb));
+    let rc = reg_or_r31(o.rc);
     of_zero(op, src, rc)
 }
 
@@ -69,7 +69,7 @@ pub fn move_number(n: i16, rc: Reg) -> Insn
 fn move_insn(o: &Operands<'_>) -> Insn
     ensures { result ≡ move_form (slots o.now) o.now.number }
 {
-    let rc = reg(o.rc);
+    let rc = reg_or_r31(o.rc);
     match o.number {
         Some(Number::Immediate(n)) => move_number(n, rc),
         _ => of_register(Op::Bis, o),
@@ -92,7 +92,7 @@ pub(crate) fn of_pseudo(pseudo_op: PseudoOp, o: &Operands<'_>) -> Option<Insn>
 {
     match pseudo_op {
         PseudoOp::Mov => Some(move_insn(o)),
-        PseudoOp::Clr => Some(clear_insn(reg(o.rc))),
+        PseudoOp::Clr => Some(clear_insn(reg_or_r31(o.rc))),
         PseudoOp::Nop => Some(clear_insn(Reg::ZERO)),
         PseudoOp::Unop => Some(insn(Form::Mem {
             op: MemOp::LdqU,

@@ -7,22 +7,23 @@ use Rattle.alpha_trap.specs.Scan.{greatest_below}
 
 -- every number of a range passes a test
 
-pub list_all-range : (p : ℕ → Bool) (from n k : ℕ) → list_all p (range_with_len from n) ≡ true → from ≤ k → k < from + n
+pub list_all-range_elim : (p : ℕ → Bool) (from n k : ℕ) → list_all p (range_with_len from n) ≡ true → from ≤ k
+    → k < from + n
     → p k ≡ true
-list_all-range p from zero k e low high = absurd (omega arith)
-list_all-range p from (suc n) k e low high =
+list_all-range_elim p from zero k e low high = absurd (omega arith)
+list_all-range_elim p from (suc n) k e low high =
     let q = and_parts (p from) (list_all p (range_with_len (from + 1) n)) e in
     ⊎_elim
     (λ (same : k ≡ from). subst (λ j. p j ≡ true) (sym same) q.0)
-    (λ (apart : k ≡ from → ⊥). list_all-range p (from + 1) n k q.1 (omega arith) (omega arith))
+    (λ (apart : k ≡ from → ⊥). list_all-range_elim p (from + 1) n k q.1 (omega arith) (omega arith))
     (cases_eq k from)
 
-pub list_all-of_range : (p : ℕ → Bool) (from n : ℕ) → ((k : ℕ) → from ≤ k → k < from + n → p k ≡ true)
+pub list_all-range_intro : (p : ℕ → Bool) (from n : ℕ) → ((k : ℕ) → from ≤ k → k < from + n → p k ≡ true)
     → list_all p (range_with_len from n) ≡ true
-list_all-of_range p from zero h = refl
-list_all-of_range p from (suc n) h =
+list_all-range_intro p from zero h = refl
+list_all-range_intro p from (suc n) h =
     and_from (p from) (list_all p (range_with_len (from + 1) n)) (h from (omega arith) (omega arith))
-    (list_all-of_range p (from + 1) n (λ k low high. h k (omega arith) (omega arith)))
+    (list_all-range_intro p (from + 1) n (λ k low high. h k (omega arith) (omega arith)))
 
 -- some number of a range passes a test
 

@@ -11,7 +11,8 @@ use Rattle.alpha_table.specs.Code.{class_at, trap_rc, Straight}
 use Rattle.alpha_image.specs.Parts.{Parts}
 use Rattle.alpha_trap.specs.Scan.{is_straight, is_destination, fits, greatest_below, place_or_end, scan_at, scan}
 use Rattle.alpha_trap.specs.Finds.{Covers, Fits, Finds}
-use Rattle.alpha_trap.proofs.GreatestInRange.{list_all-range, list_all-of_range, list_any-range, list_any-of_range}
+use Rattle.alpha_trap.proofs.GreatestInRange.{list_all-range_elim, list_all-range_intro, list_any-range}
+use Rattle.alpha_trap.proofs.GreatestInRange.{list_any-of_range}
 use Rattle.alpha_trap.proofs.GreatestInRange.{greatest_below-some}
 use Rattle.alpha_trap.proofs.GreatestInRange.{greatest_below-is}
 use Rattle.alpha_trap.proofs.ClassTests.{trigger_has_rc, has_rc_trigger, is_straight-kind, kind-is_straight}
@@ -32,12 +33,13 @@ covers_between code mask at n =
 straight_is : (code : List ℕ) (at to n : ℕ) → at + n ≡ to → straight_between code at n ≡ true → Straight code at to
 unfolding straight_between
 straight_is code at to n e t = λ k low high.
-    is_straight-kind (class_at code k) (list_all-range (λ j. is_straight (class_at code j)) at n k t low (omega arith))
+    is_straight-kind (class_at code k)
+    (list_all-range_elim (λ j. is_straight (class_at code j)) at n k t low (omega arith))
 
 is_straight_between : (code : List ℕ) (at to n : ℕ) → at + n ≡ to → Straight code at to
     → straight_between code at n ≡ true
 unfolding straight_between
-is_straight_between code at to n e s = list_all-of_range (λ j. is_straight (class_at code j)) at n (λ k low high.
+is_straight_between code at to n e s = list_all-range_intro (λ j. is_straight (class_at code j)) at n (λ k low high.
     let q = s k low (omega arith) in kind-is_straight (class_at code k) q.0 q.1)
 
 covers_is : (code : List ℕ) (mask at to n : ℕ) → at + n ≡ to → covers_between code mask at n ≡ true
@@ -50,7 +52,7 @@ covers_is code mask at to n e t = λ r small has. ⊎_elim
     let high : w.0 < at + n = w.2 in
     (w.0, w.1, omega arith, is_destination-trap_rc (class_at code w.0) r w.3))
     (or_cases (bit_at mask r == 0) (list_any (λ k. is_destination (class_at code k) r) (range_with_len at n))
-    (list_all-range
+    (list_all-range_elim
     (λ j. bit_at mask j == 0 || list_any (λ k. is_destination (class_at code k) j) (range_with_len at n)) 0 31 r t
     (omega arith) (omega arith)))
 
@@ -58,7 +60,7 @@ is_covers_between : (code : List ℕ) (mask at to n : ℕ) → at + n ≡ to →
     → covers_between code mask at n ≡ true
 unfolding covers_between is_destination_between
 is_covers_between code mask at to n e c =
-    list_all-of_range
+    list_all-range_intro
     (λ j. bit_at mask j == 0 || list_any (λ k. is_destination (class_at code k) j) (range_with_len at n)) 0
     31
     (λ r low high. ⊎_elim

@@ -18,7 +18,7 @@ pub fn run(rt: &impl Print, alloc: Global, text: &str) -> anyhow::Result<()> {
             continue;
         };
         let words = words_of(alloc, words)?;
-        let judged = text_of(alloc, judge_words(alloc, &words)?)?;
+        let judged = text_of(alloc, sample_verdict(alloc, &words)?)?;
         let tried = text_of(alloc, least_broken(&insns_of(alloc, &words)?))?;
         if judged.as_str() == wanted && tried.as_str() == wanted {
             same = same.saturating_add(1);
@@ -55,7 +55,7 @@ fn insns_of(alloc: Global, words: &[u32]) -> anyhow::Result<Vec<Insn>> {
 }
 
 // The checker's verdict on an image with this code.
-fn judge_words(alloc: Global, words: &[u32]) -> anyhow::Result<Option<Broken>> {
+fn sample_verdict(alloc: Global, words: &[u32]) -> anyhow::Result<Option<Broken>> {
     let image = sample(alloc, words, 0)?;
     Ok(judge_image(&image).err())
 }
