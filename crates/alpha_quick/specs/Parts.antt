@@ -15,7 +15,7 @@ use Rattle.alpha_text.specs.declared.head.Head.{Head}
 use Rattle.alpha_text.specs.declared.head.PseudoOp.{PseudoOp}
 use Rattle.alpha_text.specs.declared.head.PseudoOp.TheVariants as owns
 use Rattle.alpha_text.specs.Heads.{head_name, pseudo_op_shape}
-use Rattle.alpha_text.specs.Statements.{Stmt, code, pseudo_form}
+use Rattle.alpha_text.specs.Statements.{Stmt, code, empty, pseudo_form}
 use Rattle.alpha_text.specs.SuffixWords.{IsApart, SaysBy}
 use Rattle.alpha_text.specs.Reading.{LineStmt}
 
@@ -46,6 +46,10 @@ SaysNamed name behind s = (head : Head) × (head_name head ≡ name) × IsApart 
 -- an instruction without a label
 abbrev pub unlabelled : Form → LineStmt
 unlabelled insn = record { label = None; statement = code insn }
+
+-- nothing at all
+abbrev pub nothing_said : LineStmt
+nothing_said = record { label = None; statement = empty }
 
 abbrev pub class_of : ℕ → ℕ
 class_of b = if goes_on_label b then 1 else 0

@@ -393,7 +393,7 @@ fn move_insn(words: &[u8]) -> Option<Insn>
 
 /// The instruction that a pseudo-operation stands for with the words behind it.
 #[inline(always)]
-pub(crate) fn of_pseudo_op(pseudo_op: PseudoOp, words: &[u8]) -> Option<Insn>
+pub(crate) fn insn_of_pseudo_op(pseudo_op: PseudoOp, words: &[u8]) -> Option<Insn>
     ensures { IfSome result (λ i. StandsFor pseudo_op words.now i) }
 {
     match pseudo_op {

@@ -1,6 +1,6 @@
 //! Lines as programs write them, read in one pass: blanks, a label, a name, and the words behind it. What is
 //! written otherwise is left to the reader of all lines.
-ghost use Rattle.std.specs.Prelude.{◌≡◌, ◌≤◌, ◌++◌, IfSome, IfOk, IfErr, Ok, Some, length, true};
+ghost use Rattle.std.specs.Prelude.{◌≡◌, ◌≤◌, ◌++◌, List, ℕ, IfSome, IfOk, IfErr, IsTrue, Ok, Some, length, true};
 ghost use Rattle.std.specs.List.{list_all};
 ghost use Rattle.std.specs.Option.{option_map};
 ghost use Rattle.alpha_token.specs.Bytes.{goes_on_label};
@@ -10,14 +10,14 @@ ghost use Rattle.alpha_text.specs.SuffixWords.{IsApart};
 ghost use Rattle.alpha_text.specs.Statements.{stmt_of, code, empty};
 ghost use Rattle.alpha_text.specs.Reading.{line_stmt_of, statement_of, line_of, read};
 ghost use Rattle.alpha_quick.specs.Keys.{key_of, IsKeyed};
-ghost use Rattle.alpha_quick.specs.Parts.{SaysNamed, unlabelled};
+ghost use Rattle.alpha_quick.specs.Parts.{SaysNamed, unlabelled, nothing_said};
 ghost use Rattle.alpha_quick.specs.InsnPrefix.{PrefixSays, HasStatement};
 ghost use Rattle.alpha_quick.specs.Unparsed.{IsAfterLabel, IsUnparsed};
 ghost use Rattle.alpha_quick.specs.Prescanned.{LeavesRest, IsPrescanned};
 ghost use Rattle.alpha_quick.specs.Words.{HasEnd};
 
 use crate::data::of_directive;
-use crate::forms::{InsnPrefix, of_pseudo_op, of_row};
+use crate::forms::{InsnPrefix, insn_of_pseudo_op, of_row};
 use crate::lexeme::Lexeme;
 use crate::reach::with_label;
 use crate::rows::{pseudo_op_named, row_named};
@@ -60,7 +60,7 @@ fn insn_prefix_of<'a>(lexeme: &Lexeme<'a>) -> Option<InsnPrefix<'a>>
         Some(row) => of_row(row, words),
         None => {
             let pseudo_op = pseudo_op_named(lexeme.name, lexeme.key)?;
-            let insn = of_pseudo_op(pseudo_op, words)?;
+            let insn = insn_of_pseudo_op(pseudo_op, words)?;
             Some(InsnPrefix::without_label(insn, words))
         }
     }
@@ -80,7 +80,7 @@ fn empty(line: &[u8]) -> Option<Statement<'_>>
 
 // The directive of a name with what stands behind it.
 #[inline(always)]
-fn directive_of<'a>(lexeme: &Lexeme<'a>) -> Option<Statement<'a>>
+fn statement_of_pseudo_op<'a>(lexeme: &Lexeme<'a>) -> Option<Statement<'a>>
     ensures { IfSome result (λ s. SaysNamed lexeme.now.name.now lexeme.now.rest.now (stmt_of s)) }
 {
     let words = after_name(lexeme.rest)?;
@@ -167,7 +167,7 @@ impl<'a> Unparsed<'a> {
                 if self.lexeme.name.is_empty() {
                     empty(self.lexeme.rest)
                 } else {
-                    directive_of(&self.lexeme)
+                    statement_of_pseudo_op(&self.lexeme)
                 }
             }
         }
@@ -187,6 +187,17 @@ impl<'a> Unparsed<'a> {
             Some(statement) => Ok(Item { label, statement }),
             None => alpha_text::read_line(self.line),
         }
+    }
+}
+
+// Whether a line is empty, or a comment from its first byte on.
+#[inline(always)]
+fn is_blank_line(line: &[u8]) -> bool
+    ensures { IsTrue result → line_of (tokens line.now) ≡ Ok nothing_said }
+{
+    match line {
+        [] | [b'#', ..] => true,
+        _ => false,
     }
 }
 
@@ -217,6 +228,18 @@ pub struct Prescanned<'a> {
 }
 
 impl<'a> Prescanned<'a> {
+    /// Whether the line is blank or a comment alone, as far as its first bytes tell it.
+    #[inline(always)]
+    pub fn is_blank(&self) -> bool
+        ensures { IsTrue result → (line : List ℕ) → IsPrescanned line self.now
+            → line_of (tokens line) ≡ Ok nothing_said }
+    {
+        match self.insn {
+            Some(_) => false,
+            None => is_blank_line(self.left),
+        }
+    }
+
     /// The item of the line, or its first fault: the one at the least column, and at one column of the
     /// least kind.
     #[inline(always)]

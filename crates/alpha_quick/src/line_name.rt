@@ -14,7 +14,7 @@ ghost use Rattle.alpha_quick.specs.Prescanned.{IsPrescanned};
 ghost use Rattle.alpha_quick.specs.Parts.{StandsFor, unlabelled};
 ghost use Rattle.alpha_quick.specs.TerminatedLine.{IsTerminated, rest_from};
 
-use crate::forms::{InsnPrefix, of_pseudo_op};
+use crate::forms::{InsnPrefix, insn_of_pseudo_op};
 use crate::key::NameKey;
 use crate::line::Prescanned;
 use crate::rows::{place_of, pseudo_op_at, row_at};
@@ -212,7 +212,13 @@ impl<'a> TerminatedLine<'a> {
     // The instruction that a pseudo-operation stands for, whose name stands between two places, with the words at
     // another.
     #[inline(always)]
-    fn of_pseudo_op(&self, start: usize, end: usize, words: usize, place: usize) -> Option<Insn>
+    fn insn_of_pseudo_op(
+        &self,
+        start: usize,
+        end: usize,
+        words: usize,
+        place: usize,
+    ) -> Option<Insn>
         requires ended { IsTerminated self.now }
         requires order { start ≤ end }
         requires within { end ≤ self.now.end }
@@ -222,7 +228,7 @@ impl<'a> TerminatedLine<'a> {
             × StandsFor pseudo_op (rest_from self.now words) i) }
     {
         let pseudo_op = pseudo_op_at(self.slice(start, end), place)?;
-        of_pseudo_op(pseudo_op, self.rest_from(words))
+        insn_of_pseudo_op(pseudo_op, self.rest_from(words))
     }
 
     // The instruction of the line with a name at a place, or the front of it.
@@ -244,7 +250,7 @@ impl<'a> TerminatedLine<'a> {
                 if key.0 & 0xff == u64::from(b':') {
                     None
                 } else {
-                    let insn = self.of_pseudo_op(start, end, words, place)?;
+                    let insn = self.insn_of_pseudo_op(start, end, words, place)?;
                     Some(InsnPrefix::without_label(insn, self.bytes))
                 }
             }

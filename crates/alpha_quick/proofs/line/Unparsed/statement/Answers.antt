@@ -17,6 +17,6 @@ pub returns-else-is_empty : goal.returns-else-is_empty
 returns-else-is_empty c =
     IfSome-implied (λ s. SaysNamed c.args.self.now.lexeme.name.now c.args.self.now.lexeme.rest.now (stmt_of s))
     (λ s. HasStatement (c.args.self.now.lexeme.name.now ++ c.args.self.now.lexeme.rest.now) (stmt_of s))
-    c.directive_of.result
+    c.statement_of_pseudo_op.result
     (λ s h. line_of-named (c.args.self.now.lexeme.name.now ++ c.args.self.now.lexeme.rest.now)
-    c.args.self.now.lexeme.name.now c.args.self.now.lexeme.rest.now (stmt_of s) refl h) c.directive_of.ensures
+    c.args.self.now.lexeme.name.now c.args.self.now.lexeme.rest.now (stmt_of s) refl h) c.statement_of_pseudo_op.ensures

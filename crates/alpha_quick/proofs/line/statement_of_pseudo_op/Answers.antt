@@ -3,7 +3,7 @@ use Rattle.alpha_text.specs.Statements.{stmt_of}
 use Rattle.alpha_text.specs.SuffixWords.{SaysBy}
 use Rattle.alpha_quick.specs.Parts.{SaysNamed}
 use Rattle.alpha_quick.proofs.LexemeMeanings.{IfSome-implied}
-use Rattle.alpha_quick.proofs.line.directive_of.Goals as goal
+use Rattle.alpha_quick.proofs.line.statement_of_pseudo_op.Goals as goal
 
 pub returns : goal.returns
 returns c =
