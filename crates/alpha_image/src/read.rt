@@ -1,6 +1,6 @@
 //! Images that are read from their bytes.
 
-ghost use Rattle.std.specs.Prelude.{◌≡◌, ◌≢◌, IfOk, IfErr, OnOk};
+ghost use Rattle.std.specs.Prelude.{◌≡◌, ◌≢◌, None, IfOk, IfErr, OnOk};
 ghost use Rattle.alpha_image.specs.Header.{header_numbers};
 ghost use Rattle.alpha_image.specs.Reading.{version_of, numbers_of};
 ghost use Rattle.alpha_image.specs.Parts.{IsImage, image_spelling};
@@ -34,6 +34,20 @@ fn check_header(bytes: &[u8]) -> Result<Header, ImageFault>
     Ok(header)
 }
 
+// The image of bytes with this header, with data bytes of its own.
+fn image_of_copy(alloc: Global, header: Header, bytes: &[u8]) -> Result<Image, ImageFault>
+    requires fault { form_fault bytes.now ≡ None }
+    requires version { header.version ≡ version_of bytes.now }
+    requires numbers { header_numbers header ≡ numbers_of bytes.now }
+    requires form { HasForm bytes.now }
+    ensures good { IfOk result IsImage }
+    ensures spelled { IfOk result (λ image. bytes.now ≡ image_spelling image) }
+    ensures fault { Tells result (first_fault bytes.now) }
+{
+    let (code, data) = bytes[header.front_size()..].split_at(4 * header.words as usize);
+    Image::build_from_bytes(alloc, header, code, data)
+}
+
 /// The image that the bytes spell. Memory taken is that of its instructions and data bytes.
 ///
 /// # Errors
@@ -45,8 +59,7 @@ pub fn read_image(alloc: Global, bytes: &[u8]) -> Result<Image, ImageFault>
     ensures fault { Tells result (first_fault bytes.now) }
 {
     let header = check_header(bytes)?;
-    let (code, data) = bytes[header.front_size()..].split_at(4 * header.words as usize);
-    Image::build_from_bytes(alloc, header, code, data)
+    image_of_copy(alloc, header, bytes)
 }
 
 /// The image that the bytes spell, as [`read_image`] answers it. Where more than half of the bytes are data,
@@ -63,7 +76,7 @@ pub fn take_image(alloc: Global, bytes: Vec<u8>) -> Result<Image, ImageFault>
 {
     let header = check_header(bytes.as_slice())?;
     if data_size(&header.segments) <= bytes.len() as u64 / 2 {
-        return read_image(alloc, bytes.as_slice());
+        return image_of_copy(alloc, header, bytes.as_slice());
     }
     Image::of_file(alloc, header, bytes)
 }
