@@ -38,10 +38,10 @@ after_serve-cond : (regs : List ℕ) (unique : ℕ) (b : Bool) (x y : Called) (s
 after_serve-cond regs unique true x y s t p q = p
 after_serve-cond regs unique false x y s t p q = q
 
-pub callsys-does : (regs : List ℕ) (mem : List Block) (unique : ℕ) (input : List ℕ)
+pub call_callsys-serve : (regs : List ℕ) (mem : List Block) (unique : ℕ) (input : List ℕ)
     → call Callsys regs mem unique input ≡ after_serve regs unique (serve (system_call_of regs) mem input)
 unfolding call serve
-callsys-does regs mem unique input =
+call_callsys-serve regs mem unique input =
     after_serve-cond regs unique (eqb (reg regs 0) 1) _ _ _ _ refl
     (after_serve-cond regs unique (eqb (reg regs 0) 3) _ _ _ _
     (after_serve-cond regs unique (not (eqb (reg regs 16) 0)) _ _ _ _ refl

@@ -21,7 +21,7 @@ use Rattle.alpha_pal.specs.Serve.{system_call_of, after_serve}
 use Rattle.alpha_pal.specs.CallEffect.{ServeEffect, CallEffect, CallReturns, InputCause, SinkCause, seen, end_of}
 use Rattle.alpha_pal.specs.CallEffect.{regs_after}
 use Rattle.alpha_pal.proofs.SystemCalls.{Reads-silent}
-use Rattle.alpha_pal.proofs.Callsys.{callsys-does}
+use Rattle.alpha_pal.proofs.Callsys.{call_callsys-serve}
 
 -- a call that leaves memory and devices alone
 CallReturns-quiet : (function : PalCall) (regs regs' : List ℕ) (mem : List Block) (unique unique' : ℕ)
@@ -47,10 +47,11 @@ rdunique-does : (regs : List ℕ) (mem : List Block) (unique : ℕ)
 unfolding call
 rdunique-does regs mem unique = refl
 
-pub rdunique_goes_on : (regs regs' : List ℕ) (mem : List Block) (unique : ℕ) (left : Supply) (written : Option (List ℕ))
+pub rdunique-CallReturns : (regs regs' : List ℕ) (mem : List Block) (unique : ℕ) (left : Supply)
+    (written : Option (List ℕ))
     → regs' ≡ put regs 0 unique
     → CallReturns Rdunique Nothing (seen regs mem unique left written) (seen regs' mem unique left written)
-rdunique_goes_on regs regs' mem unique left written set =
+rdunique-CallReturns regs regs' mem unique left written set =
     CallReturns-quiet Rdunique regs regs' mem unique unique left written
     (rdunique-does regs mem unique ∙ ap (λ l. continues l mem unique Silent) (sym set))
 
@@ -67,10 +68,10 @@ wrunique_goes_on regs mem unique unique' left written set =
     CallReturns-quiet Wrunique regs regs mem unique unique' left written
     (wrunique-does regs mem unique ∙ ap (λ n. continues regs mem n Silent) (sym set))
 
-pub bpt_signals : (regs : List ℕ) (mem : List Block) (unique : ℕ) (input : List ℕ)
+pub bpt-call_signals : (regs : List ℕ) (mem : List Block) (unique : ℕ) (input : List ℕ)
     → call Bpt regs mem unique input ≡ signals 0
 unfolding call
-bpt_signals regs mem unique input = refl
+bpt-call_signals regs mem unique input = refl
 
 pub bugchk_signals : (regs : List ℕ) (mem : List Block) (unique : ℕ) (input : List ℕ)
     → call Bugchk regs mem unique input ≡ signals 1
@@ -116,7 +117,7 @@ served_effect : (served : Result Answer Fault) (regs regs' : List ℕ) (mem mem'
     (seen regs' mem' unique left' written')
 served_effect (Ok (Read n)) regs regs' mem mem' unique left left' written written' h set = record {
   traffic = h.traffic;
-  is = callsys-does regs mem unique (given_in h.traffic)
+  is = call_callsys-serve regs mem unique (given_in h.traffic)
       ∙ (ap (after_serve regs unique) h.is ∙ ap (λ l. continues l mem' unique h.traffic) (sym set));
   fed = h.fed;
   wrote = h.wrote;
@@ -124,7 +125,7 @@ served_effect (Ok (Read n)) regs regs' mem mem' unique left left' written writte
 }
 served_effect (Ok (Wrote n)) regs regs' mem mem' unique left left' written written' h set = record {
   traffic = h.traffic;
-  is = callsys-does regs mem unique (given_in h.traffic)
+  is = call_callsys-serve regs mem unique (given_in h.traffic)
       ∙ (ap (after_serve regs unique) h.is ∙ ap (λ l. continues l mem' unique h.traffic) (sym set));
   fed = h.fed;
   wrote = h.wrote;
@@ -132,14 +133,14 @@ served_effect (Ok (Wrote n)) regs regs' mem mem' unique left left' written writt
 }
 served_effect (Ok (Error n)) regs regs' mem mem' unique left left' written written' h set = record {
   traffic = h.traffic;
-  is = callsys-does regs mem unique (given_in h.traffic)
+  is = call_callsys-serve regs mem unique (given_in h.traffic)
       ∙ (ap (after_serve regs unique) h.is ∙ ap (λ l. continues l mem' unique h.traffic) (sym set));
   fed = h.fed;
   wrote = h.wrote;
   passes = h.passes;
 }
 served_effect (Ok (Exit v)) regs regs' mem mem' unique left left' written written' h set = (
-  λ input. callsys-does regs mem unique input ∙ ap (after_serve regs unique) (h.0 input),
+  λ input. call_callsys-serve regs mem unique input ∙ ap (after_serve regs unique) (h.0 input),
   same_seen regs regs' mem mem' unique left left' written written' set h.1 h.2 h.3,
 )
 served_effect (Err Input) regs regs' mem mem' unique left left' written written' h set =
@@ -149,7 +150,8 @@ served_effect (Err Output) regs regs' mem mem' unique left left' written written
 served_effect (Err Notes) regs regs' mem mem' unique left left' written written' h set = absurd h
 
 -- a system call between its entry and its return
-pub callsys_effect : (request : SystemCall) (served : Result Answer Fault) (end : Result PalEnd Fault) (k : KernelState)
+pub callsys-CallEffect : (request : SystemCall) (served : Result Answer Fault) (end : Result PalEnd Fault)
+    (k : KernelState)
     (f : Frame) (regs entry answer now : List ℕ) (mem mem' : List Block) (unique : ℕ)
     (left left' : Supply) (written written' : Option (List ℕ))
     → length regs ≡ 32
@@ -162,7 +164,7 @@ pub callsys_effect : (request : SystemCall) (served : Result Answer Fault) (end 
     → answer ≡ regs_after served entry
     → now ≡ put (put answer 29 k.frame.gp) 30 k.user_stack
     → CallEffect Callsys end (seen regs mem unique left written) (seen now mem' unique left' written')
-callsys_effect request served end k f regs entry answer now mem mem' unique left left' written written' sized asked
+callsys-CallEffect request served end k f regs entry answer now mem mem' unique left left' written written' sized asked
     state gp entry_is h end_is answer_is now_is =
     let set : now ≡ put (put (regs_after served (entry_regs regs)) 29 (reg regs 29)) 30 (reg regs 30) =
     now_is

@@ -7,7 +7,7 @@ ghost use Rattle.alpha_words.specs.declared.PalCall.TheVariants.{Callsys};
 use crate::fault::Fault;
 use crate::frame::Frame;
 use crate::kernel::{Kernel, USER_STATUS};
-use crate::named::{A0, GP, V0, reg};
+use crate::named::{A0, GP, V0, reg_of_number};
 use crate::pal_end::{PalEnd, Passed};
 use crate::serve::{SystemCall, finish};
 use alpha_io::{Sink, Source};
@@ -47,11 +47,11 @@ impl Kernel {
             PalCall::Gentrap => Ok(PalEnd::Signal(2)),
             PalCall::Imb => Ok(PalEnd::Goes(Passed::Nothing)),
             PalCall::Rdunique => {
-                regs.set(reg(V0), *unique);
+                regs.set(reg_of_number(V0), *unique);
                 Ok(PalEnd::Goes(Passed::Nothing))
             }
             PalCall::Wrunique => {
-                *unique = regs.get(reg(A0));
+                *unique = regs.get(reg_of_number(A0));
                 Ok(PalEnd::Goes(Passed::Nothing))
             }
             PalCall::Callsys => self.callsys(next, regs, mem, input, out),
@@ -79,7 +79,7 @@ impl Kernel {
         let frame = Frame {
             ps: USER_STATUS,
             pc: next,
-            gp: regs.get(reg(GP)),
+            gp: regs.get(reg_of_number(GP)),
             r16: 0,
             r17: 0,
             r18: 0,

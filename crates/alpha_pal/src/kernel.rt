@@ -5,7 +5,7 @@ ghost use Rattle.alpha_pal.specs.Kernel.{user_regs, arith_frame, entered, entry_
 ghost use Rattle.alpha_pal.specs.Kernel.{new_kernel};
 
 use crate::frame::{Frame, SIZE};
-use crate::named::{A0, A1, A2, GP, SP, reg};
+use crate::named::{A0, A1, A2, GP, SP, reg_of_number};
 use crate::summary::Summary;
 use alpha_words::{NoMemory, Reg, RegFile, RegSet};
 use bitflags::Flags;
@@ -85,14 +85,14 @@ impl Kernel {
         let frame = Frame {
             ps: USER_STATUS,
             pc,
-            gp: regs.get(reg(GP)),
-            r16: regs.get(reg(A0)),
-            r17: regs.get(reg(A1)),
-            r18: regs.get(reg(A2)),
+            gp: regs.get(reg_of_number(GP)),
+            r16: regs.get(reg_of_number(A0)),
+            r17: regs.get(reg_of_number(A1)),
+            r18: regs.get(reg_of_number(A2)),
         };
         self.enter(regs, frame);
-        regs.set(reg(A0), Summary::IOV.bits());
-        regs.set(reg(A1), u64::from(mask.bits()));
+        regs.set(reg_of_number(A0), Summary::IOV.bits());
+        regs.set(reg_of_number(A1), u64::from(mask.bits()));
     }
 
     // Enters the kernel with this frame.
@@ -102,10 +102,10 @@ impl Kernel {
         ensures file { IsFile regs.old }
     {
         self.user = false;
-        self.user_stack = regs.get(reg(SP));
+        self.user_stack = regs.get(reg_of_number(SP));
         write_last(&mut self.stack, frame);
-        regs.set(reg(GP), 0);
-        regs.set(reg(SP), FRAME_AT as u64);
+        regs.set(reg_of_number(GP), 0);
+        regs.set(reg_of_number(SP), FRAME_AT as u64);
     }
 
     /// The user's value of the register, in kernel mode.
@@ -179,9 +179,9 @@ impl Kernel {
         ensures state { self.new ≡ record self.old { user = true } }
     {
         let frame = self.last_frame();
-        regs.set(reg(A0), frame.r16);
-        regs.set(reg(A1), frame.r17);
-        regs.set(reg(A2), frame.r18);
+        regs.set(reg_of_number(A0), frame.r16);
+        regs.set(reg_of_number(A1), frame.r17);
+        regs.set(reg_of_number(A2), frame.r18);
         self.retsys(regs);
         frame.pc
     }
@@ -192,8 +192,8 @@ impl Kernel {
         ensures state { self.new ≡ record self.old { user = true } }
     {
         let frame = self.last_frame();
-        regs.set(reg(GP), frame.gp);
-        regs.set(reg(SP), self.user_stack);
+        regs.set(reg_of_number(GP), frame.gp);
+        regs.set(reg_of_number(SP), self.user_stack);
         self.user = true;
     }
 

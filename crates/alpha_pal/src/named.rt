@@ -18,7 +18,7 @@ pub(crate) const GP: u8 = 29;
 pub(crate) const SP: u8 = 30;
 
 // The register with this number.
-pub(crate) fn reg(number: u8) -> Reg
+pub(crate) fn reg_of_number(number: u8) -> Reg
     requires { number < 32 }
     ensures { result ≡ number }
 {

@@ -6,7 +6,7 @@ ghost use Rattle.alpha_pal.specs.Serve.{system_call_of};
 ghost use Rattle.alpha_pal.specs.CallEffect.{ServeEffect, InputCause, SinkCause, end_of, regs_after};
 
 use crate::fault::Fault;
-use crate::named::{A0, A1, A2, A3, V0, reg};
+use crate::named::{A0, A1, A2, A3, V0, reg_of_number};
 use crate::pal_end::{PalEnd, Passed};
 use crate::take::take_into;
 use alpha_io::{Failed, Sink, Source, write_whole};
@@ -59,10 +59,10 @@ impl SystemCall {
         ensures file { IsFile regs.now }
     {
         SystemCall {
-            number: regs.get(reg(V0)),
-            a0: regs.get(reg(A0)),
-            a1: regs.get(reg(A1)),
-            a2: regs.get(reg(A2)),
+            number: regs.get(reg_of_number(V0)),
+            a0: regs.get(reg_of_number(A0)),
+            a1: regs.get(reg_of_number(A1)),
+            a2: regs.get(reg_of_number(A2)),
         }
     }
 
@@ -146,7 +146,7 @@ pub(crate) fn finish(
         Answer::Error(number) => (number, 1, Passed::Nothing),
         Answer::Exit(value) => return Ok(PalEnd::Exit(value)),
     };
-    regs.set(reg(V0), value);
-    regs.set(reg(A3), error);
+    regs.set(reg_of_number(V0), value);
+    regs.set(reg_of_number(A3), error);
     Ok(PalEnd::Goes(passed))
 }
