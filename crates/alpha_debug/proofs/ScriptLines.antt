@@ -6,6 +6,7 @@ use Rattle.std.proofs.lemmas.Bool.Decides.{nat_tests}
 use Rattle.std.proofs.lemmas.Bool.{cases_lt, ne_eqb}
 use Rattle.std.proofs.lemmas.List.{length-append, length-take, take_all}
 use Rattle.std.proofs.Math.Seq.{take-append_seam}
+use Rattle.std.proofs.Math.Bool.{and-false}
 use Rattle.std.specs.Str.Lines.{lines_of_parts, strip_carriage_return}
 use Rattle.std.proofs.lemmas.List.Splits.{slice_split_at, slice_split_none, length-slice_split}
 use Rattle.alpha_debug.specs.declared.command.Command.TheVariants.{Unknown}
@@ -158,10 +159,6 @@ told_from-Grows d text most begun script =
 answers-over : (g : Setting) (s : Session) (lines : List (List ℕ)) → s.over ≡ true → answers g s lines ≡ s
 answers-over g s [] e = refl
 answers-over g s (line ∷ more) e = ap (λ (b : Bool). cond b s (answers g (answer g (command_of line) s) more)) e
-
-and-false : (b : Bool) → (b && false) ≡ false
-and-false true = refl
-and-false false = refl
 
 closed-suc : (n b : ℕ) (rest : List ℕ) (s : Session) → closed (suc n) (b ∷ rest) s ≡ closed n rest s
 closed-suc n b rest s =

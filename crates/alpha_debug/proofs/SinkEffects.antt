@@ -13,11 +13,6 @@ use Rattle.alpha_debug.specs.Effects.{Grows, FailsBehind}
 abbrev pub output_without_block : SinkChange → OutputChange
 output_without_block s = record { sink = s; old = []; new = [] }
 
--- what holds anyhow holds where a call failed
-pub session_OnErr-any : {T E P : Type 0} (result : Result T E) → P → OnErr result P
-session_OnErr-any (Ok x) p = tt
-session_OnErr-any (Err e) p = p
-
 -- a fact that follows, where a call succeeded and where it failed
 pub OnOk-map : {T E P Q : Type 0} (result : Result T E) → (P → Q) → OnOk result P → OnOk result Q
 OnOk-map (Ok x) f p = f p

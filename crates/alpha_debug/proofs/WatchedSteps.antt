@@ -1,8 +1,9 @@
 -- What the watcher of a walk makes of its steps.
 use Rattle.std.specs.Prelude.{◌==◌}
-use Rattle.std.proofs.lemmas.Bool.{ne_eqb}
+use Rattle.std.proofs.lemmas.Bool.{ne_eqb, or_parts}
 use Rattle.std.proofs.Common.{◌≡◌, ◌∙◌, ◌≤◌, ◌⊎◌, ◌||◌, inl, inr, ⊎_elim, ℕ, Bool, true, false, cond, List, [], ◌∷◌}
 use Rattle.std.proofs.Common.{◌++◌, length, refl, sym, ap, subst, append-nil, arith}
+use Rattle.std.proofs.Math.Bool.{or-true}
 use Rattle.alpha_mem.specs.Block.{Block, shapes, within}
 use Rattle.alpha_mem.specs.Intent.{Load}
 use Rattle.alpha_mem.specs.Memory.{bytes_at}
@@ -13,7 +14,7 @@ use Rattle.alpha_seq.specs.declared.event.Event.TheVariants as events
 use Rattle.alpha_seq.specs.Run.{taken, output}
 use Rattle.alpha_seq.specs.StepLabel.{StepLabel, HasPassed}
 use Rattle.alpha_seq.specs.Sequential.{SeqStep}
-use Rattle.alpha_run.specs.Row.{Row, AreWent, events_of, lines_by, seen_by, Unstopped}
+use Rattle.alpha_run.specs.Row.{Row, OnlyPassed, ArePassed, events_of, lines_by, seen_by, Unstopped}
 use Rattle.alpha_run.proofs.StepRows.{output-append}
 use Rattle.alpha_run.specs.RunEffect.{PassesOver}
 use Rattle.alpha_debug.specs.declared.watcher.Until.{Until}
@@ -87,10 +88,6 @@ HasPassed-nothing_put (events.Barrier (passes.Put addr len)) mem taken bytes h n
 HasPassed-nothing_put (events.Overflowed at) mem taken bytes h none = h.1
 HasPassed-nothing_put event mem taken bytes h none = h.1
 
-or-true : (b : Bool) → (b || true) ≡ true
-or-true true = refl
-or-true false = refl
-
 -- what was put stays put
 stays-put : (w : Watcher) (ps : List StepLabel) → w.has_put ≡ true → (seen_by watched_after w ps).has_put ≡ true
 stays-put w [] e = e
@@ -103,10 +100,6 @@ unput-by : (b : Bool) (v : Watcher) (ps : List StepLabel) → v.has_put ≡ b
 unput-by true v ps e none = absurd (let late = stays-put v ps e in cc)
 unput-by false v ps e none = refl
 
-or-false_first : (a b : Bool) → (a || b) ≡ false → a ≡ false
-or-false_first true b e = absurd cc
-or-false_first false b e = refl
-
 -- steps in a row that put nothing
 pub row-quiet : (w : Watcher) (ps : List StepLabel) (old new : Machine) → Row SeqStep old ps new
     → (seen_by watched_after w ps).has_put ≡ false → output (events_of ps) ≡ []
@@ -114,7 +107,7 @@ row-quiet w [] old new row none = refl
 row-quiet w (p ∷ ps) old new row none =
     let v = watched_after w p.event p.core in
     let one : was_put p.event ≡ false =
-    or-false_first (was_put p.event) w.has_put (unput-by v.has_put v ps refl none) in
+    (or_parts (was_put p.event) w.has_put (unput-by v.has_put v ps refl none)).0 in
     output-append p.seen (events_of ps)
     ∙ (ap (λ (l : List ℕ). l ++ output (events_of ps))
     (HasPassed-nothing_put p.event p.core.memory (taken p.seen) (output p.seen) row.1.passes one)
@@ -122,26 +115,37 @@ row-quiet w (p ∷ ps) old new row none =
 
 -- ---- steps that only went on
 
-went-over : (w : Watcher) (ps : List StepLabel) → AreWent ps
+-- where no barrier is passed over
+only_went : (p : StepLabel) → OnlyPassed false p → p.event ≡ events.Went
+only_went p passed = by passed.event
+  where
+    by : (p.event ≡ events.Went) ⊎ ((false ≡ true) × (p.event ≡ events.Barrier passes.Nothing))
+        → p.event ≡ events.Went
+    by (inl e) = e
+    by (inr h) = absurd (let no = h.0 in cc)
+
+went-over : (w : Watcher) (ps : List StepLabel) → ArePassed false ps
     → (seen_by watched_after w ps ≡ w) × (lines_by watched_after watched_lines w ps ≡ [])
 went-over w [] went = (refl, refl)
 went-over w (p ∷ ps) went =
-    let one : watched_after w p.event p.core ≡ w = ap (λ (e : SeenEvent). watched_after w e p.core) went.0.event in
+    let event = only_went p went.0 in
+    let one : watched_after w p.event p.core ≡ w = ap (λ (e : SeenEvent). watched_after w e p.core) event in
     let more = went-over w ps went.1 in (
       ap (λ (v : Watcher). seen_by watched_after v ps) one ∙ more.0,
       ap (λ (e : SeenEvent). watched_lines w e p.core
           ++ lines_by watched_after watched_lines (watched_after w p.event p.core) ps)
-          went.0.event
+          event
           ∙ (ap (λ (v : Watcher). lines_by watched_after watched_lines v ps) one ∙ more.1),
     )
 
-went-unstopped : (w : Watcher) (ps : List StepLabel) → AreWent ps
+went-unstopped : (w : Watcher) (ps : List StepLabel) → ArePassed false ps
     → ((pc : ℕ) → is_reached w.until w.points.items false pc ≡ false)
     → Unstopped watched_after watched_stops w ps
 went-unstopped w [] went calm = tt
 went-unstopped w (p ∷ ps) went calm =
-    let one : watched_after w p.event p.core ≡ w = ap (λ (e : SeenEvent). watched_after w e p.core) went.0.event in (
-      ap (λ (e : SeenEvent). watched_stops w e p.core) went.0.event ∙ calm p.core.pc,
+    let event = only_went p went.0 in
+    let one : watched_after w p.event p.core ≡ w = ap (λ (e : SeenEvent). watched_after w e p.core) event in (
+      ap (λ (e : SeenEvent). watched_stops w e p.core) event ∙ calm p.core.pc,
       subst (λ (v : Watcher). Unstopped watched_after watched_stops v ps) (sym one) (went-unstopped w ps went.1 calm),
     )
 
@@ -160,7 +164,7 @@ calm-by until.Breakpoint (at ∷ points) n low =
     inl (omega arith)
 calm-by until.Barrier points n low = inr (λ pc. refl)
 
-pub watcher_passes : (w : Watcher) (n : ℕ) → n ≤ watched_room w → PassesOver watches n w w
+pub watcher_passes : (w : Watcher) (n : ℕ) → n ≤ watched_room w → PassesOver watches false n w w
 watcher_passes w n low = λ ps went size.
     let over = went-over w ps went in (
       sym over.0,

@@ -72,5 +72,9 @@ room_for until.Barrier points = all_steps
 abbrev pub watched_room : Watcher → ℕ
 watched_room w = room_for w.until w.points.items
 
+-- it is shown each barrier
+abbrev pub no_barriers : Watcher → Bool
+no_barriers w = false
+
 abbrev pub watches : Watching Watcher
 watches = watching watched_after watched_lines watched_stops

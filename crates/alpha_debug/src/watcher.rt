@@ -38,7 +38,7 @@ pub(crate) struct Watcher {
 }
 
 impl Observer for Watcher {
-    ghost use Rattle.alpha_debug.specs.Watched.{watched_lines, watched_after, watched_stops, watched_room};
+    ghost use Rattle.alpha_debug.specs.Watched.{watched_lines, watched_after, watched_stops, watched_room, no_barriers};
 
     ghost lines = { watched_lines };
 
@@ -48,12 +48,19 @@ impl Observer for Watcher {
 
     ghost room = { watched_room };
 
+    ghost passing = { no_barriers };
+
     #[inline(always)]
     fn room(&self) -> u64 {
         match self.until {
             Until::Breakpoint if !self.points.is_empty() => 0,
             _ => u64::MAX,
         }
+    }
+
+    #[inline(always)]
+    fn passes_barriers(&self) -> bool {
+        false
     }
 
     #[inline(always)]

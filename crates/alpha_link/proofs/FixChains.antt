@@ -24,7 +24,7 @@ use Rattle.alpha_asm.specs.Unlinked.{IsAddress, takes, IsReached, IsCell, IsUnli
 use Rattle.alpha_asm.proofs.NextItem.{length-raw_bytes}
 use Rattle.alpha_asm.proofs.DataValues.{length-asm_low_bytes}
 use Rattle.alpha_link.specs.Relocations.{Body, is_taken_at, is_quad_at, body}
-use Rattle.alpha_link.proofs.SourceSizes.{insns_of, place_after-words}
+use Rattle.alpha_link.proofs.SourceSizes.{insns_of, place_after-insn_count}
 use Rattle.alpha_link.proofs.SourceRelocations.{IsFixChain}
 
 -- the code has the instruction where it stands
@@ -114,7 +114,7 @@ code_chain code bytes low p n at (i ∷ is) front known few whole size below (a,
     let x : Placed = record { place = p; line = n; item = i } in
     let next : ℕ = at + (data_size s + filled_pad p s) in
     let rest : List Placed = placed (place_after p s) (n + 1) is in
-    let words : (place_after p s).words ≡ p.words + length (raw_insns s) = place_after-words p s in
+    let words : (place_after p s).words ≡ p.words + length (raw_insns s) = place_after-insn_count p s in
     let more : (l : ℕ) → l ≤ 4 * (p.words + length (raw_insns s))
     → IsFixChain sides.Code (body (map encoded code) bytes) l (fixes next rest) = λ l h.
     code_chain code bytes l (place_after p s) (n + 1) next is (front ++ raw_insns s) known few

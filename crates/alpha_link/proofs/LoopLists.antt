@@ -45,9 +45,9 @@ drop-slice_get xs i x e =
     drop-get_or xs i x (slice_get_within xs i x e)
     ∙ ap (λ (y : _). y ∷ drop (i + 1) xs) (get_or_from_slice_get xs i x x e)
 
-pub take_get : {A : Type 0} (xs : List A) (i : ℕ) (x : A) → slice_get xs i ≡ Some x
+pub take-snoc_next : {A : Type 0} (xs : List A) (i : ℕ) (x : A) → slice_get xs i ≡ Some x
     → take (i + 1) xs ≡ take i xs ++ x ∷ []
-take_get xs i x e =
+take-snoc_next xs i x e =
     take_more xs i x (slice_get_within xs i x e)
     ∙ ap (λ (y : _). take i xs ++ y ∷ []) (get_or_from_slice_get xs i x x e)
 

@@ -21,7 +21,7 @@ use Rattle.alpha_link.specs.declared.symbol.SymbolSection.{SymbolSection}
 use Rattle.alpha_link.specs.declared.symbol.SymbolSection.TheVariants as sections
 use Rattle.alpha_link.specs.Linked.{Located, section_address, named_address, is_defined}
 use Rattle.alpha_link.proofs.AreEntered.{slice_get-snoc, slice_get-append_right}
-use Rattle.alpha_link.proofs.LoopLists.{take_get}
+use Rattle.alpha_link.proofs.LoopLists.{take-snoc_next}
 use Rattle.alpha_link.proofs.NameAddresses.{option_or-associates, first_append}
 use Rattle.alpha_link.proofs.SortedNames.{Less-not_equal}
 
@@ -140,4 +140,4 @@ find-next_symbol l name i s old find new here e found =
     let f = named_address l name in
     let ss = l.parts.symbols in
     e ∙ (ap (λ (o : Option ℕ). option_or o (f s)) found ∙ (option_or-associates old (first f (take i ss)) (f s)
-    ∙ ap (option_or old) (sym (first_append f (take i ss) s) ∙ ap (first f) (sym (take_get ss i s here)))))
+    ∙ ap (option_or old) (sym (first_append f (take i ss) s) ∙ ap (first f) (sym (take-snoc_next ss i s here)))))

@@ -36,7 +36,7 @@ use Rattle.alpha_link.specs.Made.{labels_in, references_in, all_names, symbol_at
 use Rattle.alpha_link.specs.Made.{bad_field, module_within_limits}
 use Rattle.alpha_link.specs.SortedNames.{Rise}
 use Rattle.alpha_link.specs.Unlinked.{IsOfLines, IsNear}
-use Rattle.alpha_link.proofs.SourceSizes.{insns_of, behind_all-words, filled_all, IsWithinPlace, locations_within}
+use Rattle.alpha_link.proofs.SourceSizes.{insns_of, behind_all-insn_count, filled_all, IsWithinPlace, locations_within}
 use Rattle.alpha_link.proofs.WholeLabels.{IsLabel-all_names}
 use Rattle.alpha_link.proofs.SourceSymbols.{IsLocationIn, symbols_good, FirstIsAbove-nil, names_all}
 use Rattle.alpha_link.proofs.SourceRelocations.{IsFixChain, AreGood-all_relocations}
@@ -57,7 +57,7 @@ locations_in is u z m all few words filled zeroed name =
     let e : Place = end is in
     let code : length u.code.items ≡ length (insns_of (placed start 1 is)) = ap length m.code in
     let bytes : length u.bytes.items ≡ length (flat_map raw_bytes (placed start 1 is)) = ap length (m.bytes few) in
-    let grown : e.words ≡ start.words + length (insns_of (placed start 1 is)) = behind_all-words start 1 is in
+    let grown : e.words ≡ start.words + length (insns_of (placed start 1 is)) = behind_all-insn_count start 1 is in
     let spread : e.last.filled ≡ start.last.filled + length (flat_map raw_bytes (placed start 1 is)) =
     filled_all start 1 is all in
     let zeros : u.zeroed ≡ e.last.zeroed = m.zeroed in

@@ -24,22 +24,22 @@ use Rattle.alpha_asm.proofs.NextItem.{length-raw_bytes}
 abbrev pub insns_of : List Placed → List Form
 insns_of xs = flat_map (λ x. raw_insns x.item.statement) xs
 
-pub place_after-words : (p : Place) (s : Stmt) → (place_after p s).words ≡ p.words + length (raw_insns s)
-place_after-words p s = by (coded s)
+pub place_after-insn_count : (p : Place) (s : Stmt) → (place_after p s).words ≡ p.words + length (raw_insns s)
+place_after-insn_count p s = by (coded s)
   where
     by : (o : Option InsnStmt)
         → p.words + cond {A = ℕ} (is_some o) 1 0 ≡ p.words + length (option_map_or (λ c. c.insn ∷ []) o [])
     by None = refl
     by (Some c) = refl
 
-pub behind_all-words : (p : Place) (n : ℕ) (is : List LineStmt)
+pub behind_all-insn_count : (p : Place) (n : ℕ) (is : List LineStmt)
     → (behind_all p is).words ≡ p.words + length (insns_of (placed p n is))
-behind_all-words p n [] = omega arith
-behind_all-words p n (i ∷ is) =
+behind_all-insn_count p n [] = omega arith
+behind_all-insn_count p n (i ∷ is) =
     omega (
       arith,
-      behind_all-words (place_after p i.statement) (n + 1) is,
-      place_after-words p i.statement,
+      behind_all-insn_count (place_after p i.statement) (n + 1) is,
+      place_after-insn_count p i.statement,
       length-append (raw_insns i.statement) (insns_of (placed (place_after p i.statement) (n + 1) is)),
     )
 
@@ -81,7 +81,7 @@ here_within : (p : Place) (is : List LineStmt) → AllByRecursion IsUnlinked is
 here_within p is all = by p.section
   where
     by : (s : Section) → IsWithinPlace (behind_all p is) (location_in s p)
-    by sides.Code = omega (arith, behind_all-words p 0 is)
+    by sides.Code = omega (arith, behind_all-insn_count p 0 is)
     by sides.Data = size_all p is all
 
 pub locations_within : (name : List ℕ) (p : Place) (n : ℕ) (is : List LineStmt) → AllByRecursion IsUnlinked is

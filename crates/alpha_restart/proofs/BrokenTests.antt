@@ -16,8 +16,9 @@ use Rattle.alpha_shadow.specs.declared.broken.Condition.TheVariants.{WildBase, L
 use Rattle.alpha_shadow.specs.Broken.{Holds, IsBroken}
 use Rattle.alpha_trap.specs.Scan.{is_straight, is_destination}
 use Rattle.alpha_trap.proofs.ClassTests.{trigger_has_rc, trap_rc-is_destination, kind-is_straight}
-use Rattle.alpha_trap.proofs.GreatestInRange.{list_any-of_range, list_all-of_range, list_all-range}
-use Rattle.alpha_restart.proofs.CodeWordBounds.{class_within, class_past}
+use Rattle.alpha_trap.proofs.GreatestInRange.{list_any-of_range, list_all-range_intro, list_all-range_elim}
+use Rattle.alpha_restart.proofs.CodeWordBounds.{class_within}
+use Rattle.alpha_shadow.proofs.WordColumns.{class_at-past_end}
 
 -- ---- tests of one word
 
@@ -93,7 +94,7 @@ holds_may code t i SourceLost order h =
     ap (λ o. option_map_or (λ x. list_any (is_exposed code t x) (range_with_len t (i + 1 - t))) o false) h.1
     ∙ list_any-of_range (is_exposed code t r) t (i + 1 - t) j low (omega arith)
     (and_from (uses (class_at code j) r) _ h.2.uses
-    (list_all-of_range (λ k. not (is_register (sets (class_at code k)) r)) t (j - t)
+    (list_all-range_intro (λ k. not (is_register (sets (class_at code k)) r)) t (j - t)
     (λ k above below. is_register-not (sets (class_at code k)) r
     (λ e. h.2.unset (record { place = k; above = above; below = omega arith; sets = e })))))
 holds_may code t i SameDestination order h =
@@ -144,7 +145,7 @@ trigger_within code t e = by (class_at code t) refl e
 -- a broken place stands in the code, or right behind it
 holds_within : (code : List ℕ) (t i : ℕ) (c : Condition) → t < length code → Holds code t i c → i ≤ length code
 holds_within code t i c low h =
-    ⊎_elim (λ (far : length code < i). absurd (by c h far (class_past code i (omega arith))))
+    ⊎_elim (λ (far : length code < i). absurd (by c h far (class_at-past_end code i (omega arith))))
     (λ (near : i ≤ length code). near) (cases_lt (length code) i)
   where
     by : (c : Condition) → Holds code t i c → length code < i → class_at code i ≡ None → ⊥
@@ -165,13 +166,14 @@ nothing_broken-sound code c e t i h =
     let order = h.order in
     let near = holds_within code t i c low h.holds in
     let here =
-    list_all-range (λ s. list_all (λ k. not (may_break code c s k)) (range_with_len s (length code + 1 - s))) 0
+    list_all-range_elim (λ s. list_all (λ k. not (may_break code c s k)) (range_with_len s (length code + 1 - s))) 0
     (length code) t e (omega arith) (omega arith) in
-    let never = list_all-range (λ k. not (may_break code c t k)) t (length code + 1 - t) i here order (omega arith) in
+    let never =
+    list_all-range_elim (λ k. not (may_break code c t k)) t (length code + 1 - t) i here order (omega arith) in
     let found : may_break code c t i ≡ true =
     and_from (is_some (trap_rc (class_at code t))) _ (trigger_has_rc (class_at code t) h.trigger_kind)
     (and_from (list_all (λ k. is_straight (class_at code k)) (range_with_len t (i - t))) _
-    (list_all-of_range (λ k. is_straight (class_at code k)) t (i - t)
+    (list_all-range_intro (λ k. is_straight (class_at code k)) t (i - t)
     (λ k above below. let s = h.straight k above (omega arith) in kind-is_straight (class_at code k) s.0 s.1))
     (holds_may code t i c order h.holds)) in
     let f : not true ≡ true = sym (ap not found) ∙ never in

@@ -141,11 +141,3 @@ class_within code k class e = by (slice_get code k) refl e
     by : (o : Option ℕ) → slice_get code k ≡ o → option_and_then class_in o ≡ Some class → k < length code
     by None g f = cc
     by (Some w) g f = slice_get_within code k w g
-
--- past the code there is none
-pub class_past : (code : List ℕ) (k : ℕ) → length code ≤ k → class_at code k ≡ None
-class_past code k far = by (class_at code k) refl
-  where
-    by : (o : Option Class) → class_at code k ≡ o → o ≡ None
-    by None f = refl
-    by (Some class) f = let low = class_within code k class f in absurd (omega arith)

@@ -14,9 +14,10 @@ use Rattle.alpha_imprecise.specs.Step.{address_at}
 use Rattle.alpha_imprecise.specs.StepResult.{StepResult}
 use Rattle.alpha_restart.specs.Safe.{IsSafe, is_steady}
 use Rattle.alpha_restart.specs.Invariant.{Trail}
-use Rattle.alpha_restart.proofs.CodeWordBounds.{class_within, class_past}
+use Rattle.alpha_restart.proofs.CodeWordBounds.{class_within}
 use Rattle.alpha_restart.proofs.Shadows.{Steady-Straight}
 use Rattle.alpha_trap.proofs.ClassTests.{has_rc_trigger}
+use Rattle.alpha_shadow.proofs.WordColumns.{class_at-past_end}
 
 module _ (image : Parts) (good : IsImage image) where
   pub place_within : (k : ℕ) → k < length image.words → place_of image (address_at image k) ≡ Some k
@@ -35,7 +36,7 @@ module _ (image : Parts) (good : IsImage image) where
   class_there k = ⊎_elim
       (λ (low : k < length image.words). ap (option_and_then (class_at image.words)) (place_within k low))
       (λ (far : length image.words ≤ k). ap (option_and_then (class_at image.words)) (place_past k far)
-      ∙ sym (class_past image.words k far))
+      ∙ sym (class_at-past_end image.words k far))
       (cases_lt k (length image.words))
 
   -- the address behind a word

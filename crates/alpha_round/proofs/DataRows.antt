@@ -17,7 +17,8 @@ use Rattle.alpha_operands.specs.Walk.{follow}
 use Rattle.alpha_operands.specs.Values.{first_value, next_of}
 use Rattle.alpha_operands.specs.Values as listed
 use Rattle.alpha_operands.proofs.ListReading.{values-none}
-use Rattle.alpha_text.proofs.CanonicalTokens.{token-num, tokens-comma_first, number_value-decimal}
+use Rattle.alpha_operands.proofs.FirstValues.{comma-tokens}
+use Rattle.alpha_text.proofs.CanonicalTokens.{token-num, number_value-decimal}
 use Rattle.alpha_image.specs.Parts.{IsByte}
 use Rattle.alpha_asm.specs.Statement.{number, cells, cell_of, values_up_to}
 use Rattle.alpha_round.proofs.ListingItems.{row_statement}
@@ -55,7 +56,7 @@ row_follow b (c ∷ row) o h =
     let first = token-num b (44 ∷ row_text (c ∷ row)) (byte_small b (All-head b (c ∷ row) h)) refl in
     let more = row_follow c row (record o { number = Some (numbers.Value b); left = length (row_text (c ∷ row)) })
     (All-tail b (c ∷ row) h) in
-    (more.0, rw (first, tokens-comma_first (row_text (c ∷ row)), byte_is b (All-head b (c ∷ row) h)) more.1, more.2)
+    (more.0, rw (first, comma-tokens (row_text (c ∷ row)), byte_is b (All-head b (c ∷ row) h)) more.1, more.2)
 
 -- ---- as values of a list
 
@@ -65,7 +66,7 @@ last_value b h = let t = decimal-text b (byte_small b h) in rw (t.token, byte_is
 
 first_of : (b : ℕ) (rest : List ℕ) → IsByte b → next_of 1 (decimal b ++ (44 ∷ rest)) ≡ Some (listed.number b, rest)
 unfolding first_value patterns filled
-first_of b rest h = rw (token-num b (44 ∷ rest) (byte_small b h) refl, tokens-comma_first rest, byte_is b h) refl
+first_of b rest h = rw (token-num b (44 ∷ rest) (byte_small b h) refl, comma-tokens rest, byte_is b h) refl
 
 values_all : (n : ℕ) (row : List ℕ) → All IsByte row → length row ≤ n
     → values_up_to n 1 (row_text row) ≡ map listed.number row

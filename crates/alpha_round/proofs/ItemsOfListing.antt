@@ -22,9 +22,9 @@ use Rattle.alpha_image.specs.Layout.{first_segment, filled_size}
 use Rattle.alpha_image.specs.FieldTests.{least_bad_field}
 use Rattle.alpha_image.specs.Parts.{Parts, Piece, pieces, pieces_of, numbers, SuitsVersion, IsWithin, IsCodeWord}
 use Rattle.alpha_image.specs.Parts.{IsByte, IsImage}
-use Rattle.alpha_image.specs.Reading.{numbered_level}
 use Rattle.alpha_image.proofs.FieldRules.{least-FieldsFit}
 use Rattle.alpha_image.proofs.SegmentShares.{flat_map-pieces_of}
+use Rattle.alpha_image.proofs.Spelled.{numbered_level-level_number}
 use Rattle.alpha_asm.specs.Statement.{entry_at}
 use Rattle.alpha_asm.specs.Layout.{Place, Fields, start, layout, placed, end, fields}
 use Rattle.alpha_asm.specs.Program.{program_of, names_in, code_in, bytes_in, known, based, own_segments, segments_of}
@@ -229,10 +229,6 @@ version_again : (v : Version) (p : Parts) → version_of (level_stmt v p) ≡ v
 version_again One p = refl
 version_again Two p = refl
 
-level_again : (level : Level) → numbered_level (level_number level) ≡ level
-level_again levels.One = refl
-level_again levels.Two = refl
-
 -- the numbers that the items give are those of the image
 numbers_again : (p : Parts) → IsImage p → EndsListing p.version p (end (listing_items p))
     → numbers_of (listing_items p) (entry_at p.entry) ≡ numbers p
@@ -296,7 +292,7 @@ program_again p good =
     let whole : program (listing_items p) (entry_at p.entry)
     ≡ program_with p.version (numbers p) (filter_map decoded p.words) p.bytes =
     λ i. program_with (version i) (same i) (code i) (bytes i) in
-    whole ∙ ap (λ (l : Level). record (program_of p) { level = l }) (level_again p.level)
+    whole ∙ ap (λ (l : Level). record (program_of p) { level = l }) (numbered_level-level_number p.level)
 
 pub assembled_program-listing_items : (p : Parts) → IsImage p → assembled_program (listing_items p) ≡ Ok (program_of p)
 unfolding assembled_program

@@ -32,6 +32,7 @@ use Rattle.alpha_image.specs.Parts.{Parts, numbers, SuitsVersion, IsCodeWord, Is
 use Rattle.alpha_image.specs.Reading.{numbered_level}
 use Rattle.alpha_image.specs.PartsOf.{parts_with}
 use Rattle.alpha_image.proofs.FieldRules.{FieldsFit-least, option_or-both_none}
+use Rattle.alpha_image.proofs.CodeWords.{option_map-none}
 use Rattle.alpha_asm.specs.declared.fault.AsmFault.{AsmFault}
 use Rattle.alpha_asm.specs.declared.fault.AsmFault.TheVariants.{Undefined, ImageField, Reach, Section, Duplicate}
 use Rattle.alpha_asm.specs.declared.fault.AsmFault.TheVariants.{LongLine}
@@ -328,10 +329,6 @@ unless-ok : {A : Type 0} (o : Option AsmFault) (r : Result A AsmFault) (x : A) �
 unless-ok None r x h = (refl, h)
 unless-ok (Some fault) r x h = cc
 
-no_field : (o : Option ℕ) → option_map ImageField o ≡ None → o ≡ None
-no_field None h = refl
-no_field (Some n) h = cc
-
 made_image : (is : List LineStmt) (e : Option Entry) (made : Program) → Consistent (known is) is
     → made_at is e ≡ Ok made → (image : Parts) × IsImage image × (program_of image ≡ made)
 made_image is None made consistent h = cc
@@ -343,7 +340,7 @@ made_image is (Some entry) made consistent h =
     unless-ok (option_map Reach (first (out_of_range_line (known is)) (flat_map names_in (layout is)))) _ made b in
     let same : program is entry ≡ made = cc c in
     let (image, good, code) = good_image is entry consistent
-    (FieldsFit-least (numbers_of is entry) (no_field (least_bad_field (numbers_of is entry)) fine)) in
+    (FieldsFit-least (numbers_of is entry) (option_map-none ImageField (least_bad_field (numbers_of is entry)) fine)) in
     (image, good, code ∙ same)
 
 pub IsSourceOf-exists : (source : List ℕ) (found : Program) → assembled source ≡ Ok found

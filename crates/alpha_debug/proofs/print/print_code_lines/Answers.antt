@@ -1,10 +1,11 @@
 use Rattle.std.proofs.Common.{◌≡◌, ◌<◌, ◌-◌, ◌++◌, ℕ, List, length, min, sym, ap, subst, ◌∙◌, arith}
 use Rattle.alpha_debug.specs.Lines.{rows, code_row}
-use Rattle.alpha_debug.proofs.SinkEffects.{session_OnErr-any, AppendsOutput-both, SinkFailsWith-after}
+use Rattle.alpha_debug.proofs.SinkEffects.{AppendsOutput-both, SinkFailsWith-after}
 use Rattle.alpha_debug.proofs.SinkEffects.{SinkFailsWith-more}
 use Rattle.alpha_debug.proofs.RowTexts.{rows-rest, rows-more}
 use Rattle.alpha_debug.specs.OutputChange.{output_change_by, AppendsOutput, SinkFailsWith}
 use Rattle.alpha_debug.proofs.print.print_code_lines.Goals as goal
+use Rattle.alpha_io.proofs.FileReplacementLaws.{OnErr-always}
 
 pub returns-in_err-emit-clause-refused : goal.returns-in_err-emit-clause-refused
 returns-in_err-emit-clause-refused g c =
@@ -26,7 +27,7 @@ returns-in_err-emit-clause-refused g c =
     let all = SinkFailsWith-more
     (output_change_by written faults (c.args.out.now, c.args.block.now) (c.emit.new.out, c.emit.new.block))
     (rows row k ++ row k) rest.more both in
-    session_OnErr-any c.from_residual.result (subst (λ (t : List ℕ). SinkFailsWith (output_change_by written faults (
+    OnErr-always c.from_residual.result (subst (λ (t : List ℕ). SinkFailsWith (output_change_by written faults (
       c.args.out.now,
       c.args.block.now,
     ) (c.emit.new.out, c.emit.new.block)) t) (sym rest.is ∙ ap (rows row) count) all)

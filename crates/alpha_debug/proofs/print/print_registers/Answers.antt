@@ -2,9 +2,10 @@ use Rattle.std.proofs.Common.{◌≡◌, ◌∙◌, List, ℕ, [], take, OnOk, s
 use Rattle.alpha_io.specs.SinkChange.{sink_change, Puts}
 use Rattle.alpha_seq.specs.Notes.{register_lines}
 use Rattle.alpha_debug.specs.OutputChange.{output_change, AppendsOutput, SinkFailsWith}
-use Rattle.alpha_debug.proofs.SinkEffects.{session_OnErr-any, SinkFailsWith-more}
+use Rattle.alpha_debug.proofs.SinkEffects.{SinkFailsWith-more}
 use Rattle.alpha_debug.proofs.BlockContents.{WritesPrefix-take_old, AppendsOutput-past, SinkFailsWith-past}
 use Rattle.alpha_debug.proofs.print.print_registers.Goals as goal
+use Rattle.alpha_io.proofs.FileReplacementLaws.{OnErr-always}
 
 pub returns-in_err-flush-in-Err-clause-refused : goal.returns-in_err-flush-in-Err-clause-refused
 returns-in_err-flush-in-Err-clause-refused g c =
@@ -13,7 +14,7 @@ returns-in_err-flush-in-Err-clause-refused g c =
     let back : c.truncate.new.self ≡ waited =
     c.truncate.ensures ∙ (ap (λ (n : ℕ). take n c.write_registers.new.to) c.len-waiting.ensures.value
     ∙ WritesPrefix-take_old waited c.write_registers.new.to lines c.in-Err.ensures.prefix) in
-    session_OnErr-any c.from_residual.result
+    OnErr-always c.from_residual.result
     (SinkFailsWith-more (output_change g.K.Sink c.args.out.now waited c.flush.new.out c.flush.new.self) [] lines
     (subst (λ (l : List ℕ). SinkFailsWith (output_change g.K.Sink c.args.out.now l c.flush.new.out c.flush.new.self) [])
     back c.in_err-flush-in-Err.ensures.refused))

@@ -5,12 +5,13 @@ use Rattle.std.proofs.lemmas.List.{take_all}
 use Rattle.alpha_debug.specs.declared.debugger.SessionState.{SessionState}
 use Rattle.alpha_debug.specs.declared.debugger.SessionState.TheVariants.{Continues, Quits}
 use Rattle.alpha_debug.specs.Effects.{FeedsBytes, FeedFails, Carries, CarryFails}
-use Rattle.alpha_debug.proofs.SinkEffects.{AppendsOutput-none, session_OnErr-any}
+use Rattle.alpha_debug.proofs.SinkEffects.{AppendsOutput-none}
 use Rattle.alpha_debug.proofs.Scripts.{FeedsBytes-none, FeedsBytes-then, FeedFails-then, FeedsBytes-quit}
 use Rattle.alpha_debug.proofs.Scripts.{FeedFails-more, take-get_or-drop}
 use Rattle.alpha_debug.proofs.HandedLines.{carries_none, carries_then, carries_quit, carry_fails_then, carry_fails_more}
 use Rattle.alpha_debug.specs.OutputChange.{output_change, output_change_by}
 use Rattle.alpha_debug.proofs.script.feed.Goals as goal
+use Rattle.alpha_io.proofs.FileReplacementLaws.{OnErr-always}
 
 pub loop-byte-init : goal.loop-byte-init
 loop-byte-init g c = record {
@@ -38,7 +39,7 @@ returns-in_err-feed_byte-clause-refused g c =
     (c.feed_byte.new.out, c.feed_byte.new.debugger.watcher.block) in
     λ begun is_held.
     let first = c.loop-byte.invariant.hears begun is_held in
-    session_OnErr-any c.from_residual.result
+    OnErr-always c.from_residual.result
     (subst (λ (l : List ℕ). FeedFails l begun old out) (take-get_or-drop bytes i less)
     (FeedFails-more (take i bytes ++ b ∷ []) (drop (suc i) bytes) begun old out
     (FeedFails-then written faults (c.args.out.now, c.args.debugger.now.watcher.block)
@@ -149,7 +150,7 @@ returns-in_err-feed_byte-clause-stopped g c =
     let q = c.feed_byte.new.out in
     λ begun is_held.
     let first = c.loop-byte.invariant.carries begun is_held in
-    session_OnErr-any c.from_residual.result
+    OnErr-always c.from_residual.result
     (subst (λ (l : List ℕ). CarryFails g.K.Sink l begun old o q) (take-get_or-drop bytes i less)
     (carry_fails_more g.K.Sink o q (take i bytes ++ b ∷ []) (drop (suc i) bytes) begun old
     (carry_fails_then g.K.Sink o c.loop-byte.out q (take i bytes) (b ∷ []) begun old c.loop-byte.debugger

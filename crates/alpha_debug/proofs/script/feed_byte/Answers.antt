@@ -4,13 +4,14 @@ use Rattle.std.proofs.lemmas.Bool.{ne_eqb}
 use Rattle.std.proofs.lemmas.Bool.Decides.{nat_tests}
 use Rattle.std.specs.Str.Lines.{strip_carriage_return}
 use Rattle.alpha_debug.specs.Effects.{FeedsBytes, FeedFails, Carries, CarryFails}
-use Rattle.alpha_debug.proofs.SinkEffects.{AppendsOutput-none, session_OnErr-any}
+use Rattle.alpha_debug.proofs.SinkEffects.{AppendsOutput-none}
 use Rattle.alpha_debug.proofs.Scripts.{FeedsBytes-line_feed, line_feed-FeedFails, FeedsBytes-other_byte}
 use Rattle.alpha_debug.proofs.Scripts.{IsPendingLine-other_byte}
 use Rattle.alpha_debug.proofs.Scripts.{held_prefix-push, held_prefix-full}
 use Rattle.alpha_debug.proofs.HandedLines.{carries_feed, carry_feed_fails, carries_other}
 use Rattle.alpha_debug.specs.OutputChange.{output_change}
 use Rattle.alpha_debug.proofs.script.feed_byte.Goals as goal
+use Rattle.alpha_io.proofs.FileReplacementLaws.{OnErr-always}
 
 pub returns-in_err-talk-clause-refused : goal.returns-in_err-talk-clause-refused
 returns-in_err-talk-clause-refused g c =
@@ -21,7 +22,7 @@ returns-in_err-talk-clause-refused g c =
     c.without_return.ensures ∙ ap strip_carriage_return c.as_slice.ensures.value in
     let feed : c.args.byte ≡ 10 = omega (arith, c.if-byte-eq10.true) in
     λ begun is_held.
-    session_OnErr-any c.from_residual.result
+    OnErr-always c.from_residual.result
     (subst (λ (b : ℕ). FeedFails (b ∷ []) begun c.args.debugger.now out) (sym feed)
     (line_feed-FeedFails begun held c.without_return.result.now c.args.debugger.now out is_held line
     c.in_err-talk.ensures.refused))
@@ -75,7 +76,7 @@ returns-in_err-talk-clause-stopped g c =
     c.without_return.ensures ∙ ap strip_carriage_return c.as_slice.ensures.value in
     let feed : c.args.byte ≡ 10 = omega (arith, c.if-byte-eq10.true) in
     λ begun is_held.
-    session_OnErr-any c.from_residual.result
+    OnErr-always c.from_residual.result
     (subst (λ (b : ℕ). CarryFails g.K.Sink (b ∷ []) begun c.args.debugger.now c.args.out.now c.answer_line.new.out)
     (sym feed)
     (carry_feed_fails g.K.Sink begun held c.without_return.result.now c.args.debugger.now c.args.out.now

@@ -6,7 +6,7 @@ use Rattle.alpha_link.specs.Parts.{ModuleParts}
 use Rattle.alpha_link.specs.Linked.{Located}
 use Rattle.alpha_link.specs.Addresses.{address_by_own}
 use Rattle.alpha_link.specs.Names.{found_in}
-use Rattle.alpha_link.proofs.LoopLists.{take_get}
+use Rattle.alpha_link.proofs.LoopLists.{take-snoc_next}
 use Rattle.alpha_link.proofs.table.Names.addresses_of.Goals as goal
 
 pub loop-number-preserved : goal.loop-number-preserved
@@ -25,4 +25,5 @@ loop-number-preserved c =
     ∙ (map-append Some before (c.in-Some.address ∷ [])
     ∙ (ap (λ (o : Option ℕ). map Some before ++ o ∷ []) address
     ∙ (ap (λ (os : List (Option ℕ)). os ++ f s ∷ []) c.loop-number.invariant
-    ∙ (sym (map-append f (take i l.parts.symbols) (s ∷ [])) ∙ ap (map f) (sym (take_get l.parts.symbols i s here))))))
+    ∙ (sym (map-append f (take i l.parts.symbols) (s ∷ []))
+    ∙ ap (map f) (sym (take-snoc_next l.parts.symbols i s here))))))
