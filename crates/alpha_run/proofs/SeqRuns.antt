@@ -1,5 +1,5 @@
 -- The sequential machine's steps in a row are a run of the definition.
-use Rattle.std.proofs.Common.{◌≡◌, ◌<◌, ◌+◌, ℕ, Bool, true, false, List, [], ◌∷◌, ◌++◌, length, Option, Some, None}
+use Rattle.std.proofs.Common.{◌≡◌, ◌<◌, ℕ, Bool, true, false, List, [], ◌∷◌, ◌++◌, length, Option, Some, None}
 use Rattle.std.proofs.Common.{refl, sym, ap, subst, ◌∙◌, append-nil, arith}
 use Rattle.std.specs.Io.KnownBytes.{Appends}
 use Rattle.alpha_io.specs.SinkChange.{SinkChange, Puts}
@@ -229,24 +229,24 @@ SeqRan-ended units left event watch old new from to before behind input out sink
     }
 
 -- the run, by its last step
-pub SeqRan-last_step : (last : Option SeenEvent) (units left : ℕ) (watch : Bool) (old new : Machine) (from to : Notes)
+pub run-SeqRan : (last : Option SeenEvent) (units left : ℕ) (watch : Bool) (old new : Machine) (from to : Notes)
     (before behind : Oracle) (input : Drawn) (out sink : SinkChange)
     → from ≡ record { watch = watch }
     → RunsTo last SeqStep one_unit
     (watching stays lines_seen never) units left old new from to before behind input out sink
     → SeqRan last units left watch old new input out sink
-SeqRan-last_step None units left watch old new from to before behind input out sink is did =
+run-SeqRan None units left watch old new from to before behind input out sink is did =
     SeqRan-spent units left watch old new from to before behind input out sink is did.0 did.1
-SeqRan-last_step (Some event) units left watch old new from to before behind input out sink is did =
+run-SeqRan (Some event) units left watch old new from to before behind input out sink is did =
     SeqRan-ended units left event watch old new from to before behind input out sink is did
 
-pub SeqPrefixRun-last_step : (fault : Fault) (units left : ℕ) (watch : Bool) (old new : Machine) (from : Notes)
+pub IsPrefixRun-SeqPrefixRun : (fault : Fault) (units left : ℕ) (watch : Bool) (old new : Machine) (from : Notes)
     (before behind : Oracle) (input : Drawn) (out sink : SinkChange)
     → from ≡ record { watch = watch }
     → IsPrefixRun fault SeqStep SeqStateAfterFault
     (watching stays lines_seen never) units left old new from before behind input out sink
     → SeqPrefixRun fault units left watch old new input out sink
-SeqPrefixRun-last_step fault units left watch old new from before behind input out sink is one =
+IsPrefixRun-SeqPrefixRun fault units left watch old new from before behind input out sink is one =
     let ps = one.labels in
     let p = one.label in
     let r = row_ran (program_of old) watch ps Went old one.mid refl refl one.row one.going in

@@ -1,7 +1,7 @@
 -- Rows of steps, and one more.
 use Rattle.std.proofs.Common.{◌≡◌, ◌≤◌, ◌+◌, ◌-◌, ℕ, Bool, true, false, List, [], ◌∷◌, ◌++◌, length, Option, Result}
-use Rattle.std.proofs.Common.{IfErr, refl, sym, ap, subst, ◌∙◌, append_assoc, append-nil, arith}
-use Rattle.std.specs.Prelude.{IsErr, IsErrAnd}
+use Rattle.std.proofs.Common.{IfErr, refl, sym, ap, subst, ◌∙◌, append_assoc, append-nil, arith, drop, ⊎_elim}
+use Rattle.std.specs.Prelude.{IsErr, IsErrAnd, take}
 use Rattle.std.proofs.lemmas.Result.{err_from_is_err_and}
 use Rattle.std.specs.List.{flat_map}
 use Rattle.std.proofs.lemmas.Grind.{flat_map-append}
@@ -11,6 +11,9 @@ use Rattle.alpha_io.specs.Supply.{Supply}
 use Rattle.alpha_io.specs.Faults.{Faulted}
 use Rattle.alpha_io.specs.SinkChange.{SinkChange, Puts}
 use Rattle.alpha_io.proofs.Sinks.{Puts-none, Puts-then}
+use Rattle.alpha_pal.specs.declared.pal_end.Passed.TheVariants.{Nothing}
+use Rattle.alpha_pal.specs.Call.{Traffic, asked_in, given_in, put_in}
+use Rattle.alpha_pal.specs.CallEffect.{Answers}
 use Rattle.alpha_seq.specs.declared.machine.Machine.{Machine}
 use Rattle.alpha_seq.specs.State.{Event as Happened}
 use Rattle.alpha_seq.specs.Run.{put, output, Fed}
@@ -24,10 +27,11 @@ use Rattle.alpha_imprecise.proofs.ChoicesMade.{OracleDraws-none}
 use Rattle.alpha_imprecise.proofs.RunConcatenation.{unused_device, idle_sink}
 use Rattle.alpha_imprecise.proofs.OracleLaws.{OracleDraws-then}
 use Rattle.alpha_seq.specs.declared.event.Event.{Event}
+use Rattle.alpha_seq.specs.declared.event.Event.TheVariants as events
 use Rattle.alpha_pal.specs.declared.fault.Fault.{Fault}
 use Rattle.alpha_pal.specs.declared.fault.Fault.TheVariants as faults
 use Rattle.alpha_seq.specs.StepLabel.{StepLabel, is_over}
-use Rattle.alpha_run.specs.Row.{Row, AreGoing, AreWent, words_of, events_in, events_of, units_of, lines_by, seen_by}
+use Rattle.alpha_run.specs.Row.{Row, AreGoing, ArePassed, words_of, events_in, events_of, units_of, lines_by, seen_by}
 use Rattle.alpha_run.specs.Row.{Unstopped}
 use Rattle.alpha_seq.specs.StepEffect.{Causes}
 use Rattle.alpha_run.specs.RunEffect.{Watching, ends_at, RunEffect, StateAfterFault, IsObservedStep, FaultedStep}
@@ -113,35 +117,50 @@ ContinuesRun-none steps_to w units m o told left out notes a b c = record {
   };
 }
 
--- ---- steps that only went on
+-- ---- steps that only went on, or passed a barrier
 
-went-going : (ps : List StepLabel) → AreWent ps → AreGoing ps
-went-going [] went = tt
-went-going (p ∷ ps) went = (ap is_over went.0.event, went-going ps went.1)
+passed-going : (barriers : Bool) (ps : List StepLabel) → ArePassed barriers ps → AreGoing ps
+passed-going barriers [] went = tt
+passed-going barriers (p ∷ ps) went = (
+  ⊎_elim (λ (e : p.event ≡ events.Went). ap is_over e)
+      (λ (e : (barriers ≡ true) × (p.event ≡ events.Barrier Nothing)). ap is_over e.1) went.0.event,
+  passed-going barriers ps went.1,
+)
 
-went-units : (ps : List StepLabel) → AreWent ps → units_of ps ≡ length ps
-went-units [] went = refl
-went-units (p ∷ ps) went = omega (arith, went.0.units, went-units ps went.1)
+passed-units : (barriers : Bool) (ps : List StepLabel) → ArePassed barriers ps → units_of ps ≡ length ps
+passed-units barriers [] went = refl
+passed-units barriers (p ∷ ps) went = omega (arith, went.0.units, passed-units barriers ps went.1)
 
-went-words : (ps : List StepLabel) → AreWent ps → flat_map words_of ps ≡ []
-went-words [] went = refl
-went-words (p ∷ ps) went = ap (λ l. l ++ flat_map words_of ps) went.0.words ∙ went-words ps went.1
+passed-words : (barriers : Bool) (ps : List StepLabel) → ArePassed barriers ps → flat_map words_of ps ≡ []
+passed-words barriers [] went = refl
+passed-words barriers (p ∷ ps) went =
+    ap (λ l. l ++ flat_map words_of ps) went.0.words ∙ passed-words barriers ps went.1
 
-went-output : (ps : List StepLabel) → AreWent ps → output (events_of ps) ≡ []
-went-output [] went = refl
-went-output (p ∷ ps) went = ap (λ (l : List Happened). output (l ++ events_of ps)) went.0.seen ∙ went-output ps went.1
+passed-output : (barriers : Bool) (ps : List StepLabel) → ArePassed barriers ps → output (events_of ps) ≡ []
+passed-output barriers [] went = refl
+passed-output barriers (p ∷ ps) went =
+    ap (λ (l : List Happened). output (l ++ events_of ps)) went.0.seen
+    ∙ (ap (λ (t : Traffic). put_in t ++ output (events_of ps)) went.0.silent ∙ passed-output barriers ps went.1)
 
 -- nothing was read
-went-fed : (left : List ℕ) (ps : List StepLabel) → AreWent ps → Fed left (events_of ps) left
-went-fed left [] went = refl
-went-fed left (p ∷ ps) went =
-    subst (λ (l : List Happened). Fed left (l ++ events_of ps) left) (sym went.0.seen) (refl, went-fed left ps went.1)
+passed-fed : (left : List ℕ) (barriers : Bool) (ps : List StepLabel) → ArePassed barriers ps
+    → Fed left (events_of ps) left
+passed-fed left barriers [] went = refl
+passed-fed left barriers (p ∷ ps) went =
+    subst (λ (l : List Happened). Fed left (l ++ events_of ps) left) (sym went.0.seen)
+    (subst (λ (t : Traffic). (given_in t ≡ take (asked_in t) left)
+    × Fed (drop (length (given_in t)) left) (events_of ps) left)
+    (sym went.0.silent) (refl, passed-fed left barriers ps went.1))
 
-went-answers : (replies : List Reply) (ps : List StepLabel) → AreWent ps → AnswersEach replies (events_of ps) replies
-went-answers replies [] went = refl
-went-answers replies (p ∷ ps) went =
-    subst (λ (l : List Happened). AnswersEach replies (l ++ events_of ps) replies) (sym went.0.seen)
-    (replies, refl, went-answers replies ps went.1)
+passed-answers : (replies : List Reply) (barriers : Bool) (ps : List StepLabel) → ArePassed barriers ps
+    → AnswersEach replies (events_of ps) replies
+passed-answers replies barriers [] went = refl
+passed-answers replies barriers (p ∷ ps) went =
+    subst (λ (l : List Happened). AnswersEach replies (l ++ events_of ps) replies) (sym went.0.seen) (
+      replies,
+      subst (λ (t : Traffic). Answers replies t replies) (sym went.0.silent) refl,
+      passed-answers replies barriers ps went.1,
+    )
 
 -- ---- steps behind one another
 
@@ -210,7 +229,7 @@ ContinuesRun-step steps_to uses w units left event last old new from to before a
       effect = one.effect;
     }
 
--- steps that only went on
+-- steps that only went on, or passed barriers
 pub ContinuesRun-run_fast : {M O : Type 0} (steps_to : M → StepLabel → M → Type 0) (w : Watching O) (units left : ℕ)
     (old new : M) (from to : O) (told : Oracle) (input : Supply) (out notes : Option (List ℕ)) (a b c : ℕ)
     → RunsFast steps_to w units left old new from to
@@ -220,22 +239,23 @@ ContinuesRun-run_fast steps_to w units left old new from to told input out notes
     let rushed = one.fast_steps in
     let ps = rushed.0 in
     let went = rushed.2 in
+    let barriers = one.barriers in
     let passed = one.passed ps went rushed.3 in
     record {
       labels = ps;
       row = rushed.1;
-      going = went-going ps went;
+      going = passed-going barriers ps went;
       unstopped = passed.2;
-      used = omega (arith, went-units ps went, rushed.3, one.used);
+      used = omega (arith, passed-units barriers ps went, rushed.3, one.used);
       effect = record {
         seen = passed.0;
-        drew = subst (OracleDraws told told) (sym (went-words ps went)) (OracleDraws-none told);
+        drew = subst (OracleDraws told told) (sym (passed-words barriers ps went)) (OracleDraws-none told);
         fed = record {
-          told = λ bytes is. (bytes, went-fed bytes ps went, is);
-          answers = went-answers input.replies ps went;
+          told = λ bytes is. (bytes, passed-fed bytes barriers ps went, is);
+          answers = passed-answers input.replies barriers ps went;
         };
         same = refl;
-        wrote = subst (Puts (idle_sink out b)) (sym (went-output ps went)) (Puts-none out b);
+        wrote = subst (Puts (idle_sink out b)) (sym (passed-output barriers ps went)) (Puts-none out b);
         lines = subst (Puts (idle_sink notes c)) (sym passed.1) (Puts-none notes c);
       };
     }

@@ -1,5 +1,5 @@
 -- The lines that are written of a step.
-use Rattle.std.specs.Prelude.{ℕ, ◌-◌, ◌^◌, Bool, false, List, [], if◌then◌else◌}
+use Rattle.std.specs.Prelude.{ℕ, ◌-◌, ◌^◌, Bool, false, not, List, [], if◌then◌else◌}
 use Rattle.alpha_seq.specs.declared.machine.Machine.{Machine}
 use Rattle.alpha_seq.specs.Notes.{overflow_line, barrier_lines}
 use Rattle.alpha_seq.specs.declared.event.Event.{Event}
@@ -30,3 +30,7 @@ never o event m = false
 -- a step that only goes on has no line, so that as many as there may be are passed over
 abbrev pub endless : Notes → ℕ
 endless o = 2 ^ 64 - 1
+
+-- nor has a barrier that isn't watched
+abbrev pub passes_unwatched : Notes → Bool
+passes_unwatched o = not o.watch

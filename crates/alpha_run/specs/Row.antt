@@ -1,10 +1,13 @@
 -- Steps in a row, and what an observer writes of them.
-use Rattle.std.specs.Prelude.{◌≡◌, ⊤, ℕ, ◌+◌, Bool, false, List, [], ◌∷◌, ◌++◌, length}
+use Rattle.std.specs.Prelude.{◌≡◌, ⊤, ℕ, ◌+◌, ◌⊎◌, Bool, true, false, List, [], ◌∷◌, ◌++◌, length}
 use Rattle.std.specs.List.{flat_map}
+use Rattle.alpha_pal.specs.declared.pal_end.Passed.TheVariants.{Nothing}
+use Rattle.alpha_pal.specs.Call.{Silent}
 use Rattle.alpha_seq.specs.declared.machine.Machine.{Machine}
 use Rattle.alpha_seq.specs.declared.event.Event.{Event}
 use Rattle.alpha_seq.specs.declared.event.Event.TheVariants as events
-use Rattle.alpha_seq.specs.State.{Event as Happened, Went}
+use Rattle.alpha_seq.specs.State.{Event as Happened}
+use Rattle.alpha_seq.specs.Run.{traffic_of}
 use Rattle.alpha_seq.specs.StepLabel.{StepLabel, is_over}
 
 -- from one machine to another by these steps
@@ -17,20 +20,24 @@ abbrev pub AreGoing : List StepLabel → Type 0
 AreGoing [] = ⊤
 AreGoing (p ∷ ps) = (is_over p.event ≡ false) × AreGoing ps
 
--- a step that only went on: it used a unit and drew no word, and nothing passed in it
-pub record OnlyWent (p : StepLabel) : Type 0 where
-  pub event : p.event ≡ events.Went
+-- A step that only went on, or that passed a barrier which took and put nothing where such barriers are passed: it used
+-- a unit and drew no word, and nothing passed in it.
+pub record OnlyPassed (barriers : Bool) (p : StepLabel) : Type 0 where
+  pub event : (p.event ≡ events.Went) ⊎ ((barriers ≡ true) × (p.event ≡ events.Barrier Nothing))
   pub units : p.units ≡ 1
   pub words : p.words ≡ []
-  pub seen : p.seen ≡ Went ∷ []
+  pub happened : Happened
+  pub seen : p.seen ≡ happened ∷ []
+  pub silent : traffic_of happened ≡ Silent
 
-abbrev pub AreWent : List StepLabel → Type 0
-AreWent [] = ⊤
-AreWent (p ∷ ps) = OnlyWent p × AreWent ps
+abbrev pub ArePassed : Bool → List StepLabel → Type 0
+ArePassed barriers [] = ⊤
+ArePassed barriers (p ∷ ps) = OnlyPassed barriers p × ArePassed barriers ps
 
--- from one machine to another by so many steps that only went on
-abbrev pub FastSteps : {M : Type 0} → (M → StepLabel → M → Type 0) → ℕ → M → M → Type 0
-FastSteps goes n old new = (prints : List StepLabel) × Row goes old prints new × AreWent prints × (length prints ≡ n)
+-- from one machine to another by so many such steps
+abbrev pub FastSteps : {M : Type 0} → (M → StepLabel → M → Type 0) → Bool → ℕ → M → M → Type 0
+FastSteps goes barriers n old new =
+    (prints : List StepLabel) × Row goes old prints new × ArePassed barriers prints × (length prints ≡ n)
 
 abbrev pub words_of : StepLabel → List ℕ
 words_of p = p.words

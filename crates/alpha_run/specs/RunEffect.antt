@@ -13,7 +13,7 @@ use Rattle.alpha_seq.specs.declared.event.Event.{Event}
 use Rattle.alpha_pal.specs.declared.fault.Fault.{Fault}
 use Rattle.alpha_pal.specs.declared.fault.Fault.TheVariants as faults
 use Rattle.alpha_seq.specs.StepLabel.{StepLabel, is_over}
-use Rattle.alpha_run.specs.Row.{Row, AreGoing, AreWent, FastSteps, words_of, events_of, units_of, lines_by, seen_by}
+use Rattle.alpha_run.specs.Row.{Row, AreGoing, ArePassed, FastSteps, words_of, events_of, units_of, lines_by, seen_by}
 use Rattle.alpha_run.specs.Row.{Unstopped}
 use Rattle.alpha_seq.specs.StepEffect.{Causes}
 
@@ -31,10 +31,10 @@ watching after lines stops = record { after = after; lines = lines; stops = stop
 abbrev pub ends_at : {O : Type 0} → Watching O → O → Event → Machine → Bool
 ends_at w o event m = w.stops o event m || is_over event
 
--- An observer that has passed over so many steps that only went on is as if it had seen each: it writes no line of
--- them, and stops behind none.
-abbrev pub PassesOver : {O : Type 0} → Watching O → ℕ → O → O → Type 0
-PassesOver w n old new = (prints : List StepLabel) → AreWent prints → length prints ≡ n
+-- An observer that has passed over so many steps that only went on, or passed barriers where these are passed, is as if
+-- it had seen each: it writes no line of them, and stops behind none.
+abbrev pub PassesOver : {O : Type 0} → Watching O → Bool → ℕ → O → O → Type 0
+PassesOver w barriers n old new = (prints : List StepLabel) → ArePassed barriers prints → length prints ≡ n
     → (new ≡ seen_by w.after old prints) × (lines_by w.after w.lines old prints ≡ [])
     × Unstopped w.after w.stops old prints
 
@@ -117,14 +117,15 @@ pub record FaultedStep {M O : Type 0} (steps_to : M → StepLabel → M → Type
   pub after_fault : StateAfterFault leaves fault label old intended new input out notes
   pub cause : Causes fault input out notes
 
--- Steps that only went on, a unit each, and that the observer has passed over.
+-- Steps that only went on or passed barriers, a unit each, and that the observer has passed over.
 pub record RunsFast {M O : Type 0} (steps_to : M → StepLabel → M → Type 0) (w : Watching O) (units left : ℕ)
     (old new : M)
     (from to : O) : Type 0 where
   pub count : ℕ
+  pub barriers : Bool
   pub used : count + left ≡ units
-  pub fast_steps : FastSteps steps_to count old new
-  pub passed : PassesOver w count from to
+  pub fast_steps : FastSteps steps_to barriers count old new
+  pub passed : PassesOver w barriers count from to
 
 -- ---- a run
 

@@ -40,8 +40,8 @@ impl Steps for RowMachine {
     }
 
     #[inline(always)]
-    fn run_fast(&mut self, units: u64) -> u64 {
-        RowMachine::run_fast(self, units)
+    fn run_fast(&mut self, units: u64, barriers: bool) -> u64 {
+        self.run_on(units, barriers)
     }
 
     #[inline(always)]

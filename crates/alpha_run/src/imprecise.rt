@@ -41,8 +41,8 @@ impl Steps for Wild {
     }
 
     #[inline(always)]
-    fn run_fast(&mut self, units: u64) -> u64 {
-        Wild::run_fast(self, units)
+    fn run_fast(&mut self, units: u64, barriers: bool) -> u64 {
+        self.run_on(units, barriers)
     }
 
     #[inline(always)]

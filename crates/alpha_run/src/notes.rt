@@ -12,7 +12,7 @@ pub struct Notes {
 }
 
 impl Observer for Notes {
-    ghost use Rattle.alpha_run.specs.Noted.{lines_of, stays, never, endless};
+    ghost use Rattle.alpha_run.specs.Noted.{lines_of, stays, never, endless, passes_unwatched};
 
     ghost lines = { lines_of };
 
@@ -22,9 +22,16 @@ impl Observer for Notes {
 
     ghost room = { endless };
 
+    ghost passing = { passes_unwatched };
+
     #[inline(always)]
     fn room(&self) -> u64 {
         u64::MAX
+    }
+
+    #[inline(always)]
+    fn passes_barriers(&self) -> bool {
+        !self.watch
     }
 
     #[inline(always)]

@@ -21,14 +21,21 @@ pub trait Observer {
     /// How many steps that only go on it need not be shown one by one.
     ghost room: { Self → ℕ };
 
+    /// Whether barriers that take and put nothing are to it as steps that only go on.
+    ghost passing: { Self → Bool };
+
     /// How many steps that only go on it need not be shown one by one.
     fn room(&self) -> u64
         ensures { result ≡ room self.now };
 
-    /// Passes over so many steps that only went on, as if it had seen each.
+    /// Whether barriers that take and put nothing are to it as steps that only go on.
+    fn passes_barriers(&self) -> bool
+        ensures { result ≡ passing self.now };
+
+    /// Passes over so many steps that only went on, or passed such barriers, as if it had seen each.
     fn pass(&mut self, count: u64)
         requires { count ≤ room self.old }
-        ensures { PassesOver (watching after lines stops) count self.old self.new };
+        ensures { PassesOver (watching after lines stops) (passing self.old) count self.old self.new };
 
     /// Looks at a step and at the machine behind it, and answers whether the run stops here.
     fn see<N: Sink>(

@@ -56,7 +56,8 @@ pub fn run<M: Steps, O: Observer, C: Chooser, S: Source, K: Sink, N: Sink>(
     Ok(None)
 }
 
-// Makes steps that only go on, no more than the units that are left and than the observer has room for.
+// Makes steps that only go on, or pass barriers that the observer need not be shown, no more than the units that are
+// left and than the observer has room for.
 #[inline(always)]
 fn run_fast<M: Steps, O: Observer>(machine: &mut M, observer: &mut O, left: &mut u64)
     requires { M.ready machine.old }
@@ -70,7 +71,7 @@ fn run_fast<M: Steps, O: Observer>(machine: &mut M, observer: &mut O, left: &mut
     if room == 0 {
         return;
     }
-    let count = machine.run_fast(room.min(*left));
+    let count = machine.run_fast(room.min(*left), observer.passes_barriers());
     observer.pass(count);
     *left -= count;
 }

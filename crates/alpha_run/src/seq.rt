@@ -39,7 +39,7 @@ impl Steps for Machine {
     }
 
     #[inline(always)]
-    fn run_fast(&mut self, units: u64) -> u64 {
+    fn run_fast(&mut self, units: u64, _barriers: bool) -> u64 {
         Machine::run_fast(self, units)
     }
 

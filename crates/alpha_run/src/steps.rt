@@ -43,12 +43,13 @@ pub trait Steps {
     fn machine(&self) -> &Machine
         ensures { result.now ≡ core self.now };
 
-    /// Makes steps as long as each only goes on, `units` of them at most, and answers how many it made. It may stop
-    /// early: what a step does then is what [`Steps::step`] says.
-    fn run_fast(&mut self, units: u64) -> u64
+    /// Makes steps as long as each only goes on, or passes a barrier that takes and puts nothing where `barriers` says
+    /// that these are passed, `units` of them at most, and answers how many it made. It may stop early: what a step
+    /// does then is what [`Steps::step`] says.
+    fn run_fast(&mut self, units: u64, barriers: bool) -> u64
         requires { ready self.old }
         ensures most { result ≤ units }
-        ensures went { FastSteps steps_to result self.old self.new }
+        ensures went { FastSteps steps_to barriers result self.old self.new }
         ensures nearer { waits self.new ≤ waits self.old }
         ensures same { stays self.old self.new }
         ensures ready { ready self.new };
