@@ -1,3 +1,5 @@
 pub mod OperateRowValues
+pub mod PassingRuns
 pub mod RowLaws
+pub mod RowRuns
 pub mod RowsOfWords

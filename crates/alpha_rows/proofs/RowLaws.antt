@@ -1,38 +1,30 @@
 -- What follows from what a row says.
-use Rattle.std.proofs.Common.{◌≡◌, ◌≢◌, ℕ, zero, suc, ◌+◌, ◌*◌, ◌%◌, ◌/◌, ◌-◌, ◌^◌, ◌<◌, ◌≤◌, ℤ, pos, ◌+ℤ◌, Bool}
-use Rattle.std.proofs.Common.{true, false, cond, eqb, List, [], length, slice_get, set, Option, Some, None, refl, sym}
-use Rattle.std.proofs.Common.{ap, subst, ◌∙◌, add-one, FitsSigned, arith}
-use Rattle.std.specs.Int.{w16, w32}
+use Rattle.std.proofs.Common.{◌≡◌, ℕ, ◌+◌, ◌*◌, ◌%◌, ◌/◌, ◌-◌, ◌^◌, ◌<◌, ◌≤◌, ℤ, pos, ◌+ℤ◌, Bool}
+use Rattle.std.proofs.Common.{true, false, cond, List, length, slice_get, Option, Some, None, refl, sym}
+use Rattle.std.proofs.Common.{ap, subst, ◌∙◌, arith}
+use Rattle.std.specs.Int.{w16}
 use Rattle.std.specs.Option.{option_and_then}
 use Rattle.std.proofs.lemmas.Int.{ints}
 use Rattle.std.proofs.lemmas.Option.{slice_get_within}
 use Rattle.alpha_words.specs.Regs.{reg, put}
 use Rattle.alpha_words.specs.declared.Level.{Level}
 use Rattle.alpha_table.specs.declared.op.Cond.{Cond}
-use Rattle.alpha_table.specs.declared.op.Op.{Op}
 use Rattle.alpha_table.specs.declared.rows.MemOp.{MemOp}
-use Rattle.alpha_table.specs.declared.form.Src.{Src}
 use Rattle.alpha_table.specs.declared.form.Form.{Form}
 use Rattle.alpha_table.specs.declared.form.Form.TheVariants.{Mem, Operate}
 use Rattle.alpha_table.specs.Class.{Class, operate, trigger, address, load, store, load_locked, store_conditional}
 use Rattle.alpha_table.specs.Class.{branch, jump, barrier, idle}
 use Rattle.alpha_table.specs.ClassOf.{class_of}
-use Rattle.alpha_table.specs.Code.{class_at}
 use Rattle.alpha_table.specs.Decoded.{decoded}
 use Rattle.alpha_values.specs.Numbers.{signed, register_of}
 use Rattle.alpha_values.specs.Cond.{is_taken}
 use Rattle.alpha_values.proofs.MachineWords.{register_of-mod}
 use Rattle.alpha_mem.specs.Block.{Block}
-use Rattle.alpha_image.specs.Parts.{Parts, IsImage, place_of}
-use Rattle.alpha_image.proofs.CodePlaces.{place_of-code}
-use Rattle.alpha_table.proofs.CodeWords.{class_at-decoded_word}
-use Rattle.alpha_seq.specs.declared.machine.Machine.{Machine}
+use Rattle.alpha_image.specs.Parts.{Parts, IsImage}
 use Rattle.alpha_seq.specs.State.{State, Went, Stepped, stepped}
 use Rattle.alpha_seq.specs.Step.{next_pc}
 use Rattle.alpha_seq.specs.Machine.{state_of}
-use Rattle.alpha_seq.specs.Machine as of_machine
-use Rattle.alpha_seq.specs.Executed.{ExecutesWord}
-use Rattle.alpha_seq.specs.FastSteps.{FastSteps, machine_at, ExecutesFast, RunsFast}
+use Rattle.alpha_seq.specs.FastSteps.{machine_at, ExecutesFast}
 use Rattle.alpha_seq.proofs.FastStepLaws.{next_place, ExecutesFast-operate, ExecutesFast-idle, ExecutesFast-turn}
 use Rattle.alpha_seq.proofs.FastStepLaws.{ExecutesFast-branch}
 use Rattle.alpha_rows.specs.declared.row.Row.{Row}
@@ -42,7 +34,7 @@ use Rattle.alpha_rows.specs.Rows.{DenotesInsn, IsRowAt, ExecutesRow}
 
 -- ---- places
 
-decoded-within : (words : List ℕ) (k : ℕ) (i : Form) → option_and_then decoded (slice_get words k) ≡ Some i
+pub decoded-within : (words : List ℕ) (k : ℕ) (i : Form) → option_and_then decoded (slice_get words k) ≡ Some i
     → k < length words
 decoded-within words k i e = by (slice_get words k) refl e
   where
@@ -269,30 +261,3 @@ ExecutesRow-jump p regs regs' mem k next target to s good row e is left at small
       });
       within = within;
     }
-
--- ---- rows behind one another
-
-pub RunsFast-row : (n : ℕ) (p : Parts) (first regs last : List ℕ) (begun mem left : List Block) (start place to : ℕ)
-    → IsImage p
-    → RunsFast n p first begun start regs mem place → ExecutesRow p regs mem place last left to
-    → RunsFast (n + 1) p first begun start last left to
-RunsFast-row n p first regs last begun mem left start place to good before f = record {
-  made = λ m same.
-      let words = good.fields.words in
-      let below : place < length p.words = decoded-within p.words place f.insn f.there in
-      let address : (p.code_base + 4 * place) % 2 ^ 64 ≡ p.code_base + 4 * place = omega arith in
-      let at : place_of p ((p.code_base + 4 * place) % 2 ^ 64) ≡ Some place =
-      (place_of-code p good ((p.code_base + 4 * place) % 2 ^ 64) place).1 (below, address) in
-      let class : option_and_then (class_at p.words) (place_of p ((p.code_base + 4 * place) % 2 ^ 64)) ≡ Some
-      (class_of f.insn) =
-      ap (option_and_then (class_at p.words)) at ∙ class_at-decoded_word p.words place f.insn f.there in
-      let here : of_machine.class_here (machine_at m regs mem place) ≡ Some (class_of f.insn) =
-      ap (λ (q : Parts). option_and_then (class_at q.words) (place_of q ((q.code_base + 4 * place) % 2 ^ 64))) same
-      ∙ class in
-      subst (λ (k : ℕ). FastSteps k (machine_at m first begun start) (machine_at m last left to)) (sym (add-one n)) (
-        machine_at m regs mem place,
-        before.made m same,
-        record
-            { class = class_of f.insn; here = here; does = f.executes.does m same },
-      );
-}

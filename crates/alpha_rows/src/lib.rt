@@ -20,8 +20,10 @@ mod execute;
 mod fast;
 mod machine;
 mod make;
+mod program_rows;
 mod regions;
 mod row;
 mod values;
 
 pub use machine::RowMachine;
+pub use program_rows::ProgramRows;

@@ -4,40 +4,31 @@ ghost use Rattle.alpha_mem.specs.Block.{shapes};
 ghost use Rattle.alpha_seq.specs.Machine.{Stays};
 ghost use Rattle.alpha_seq.specs.Devices.{drawn};
 ghost use Rattle.alpha_seq.specs.FastSteps.{FastSteps};
+ghost use Rattle.alpha_rows.specs.PassingSteps.{PassingSteps};
 ghost use Rattle.alpha_seq.specs.Sequential.{SeqStepEffect, FaultedSeqStep};
 
-use crate::fast::run_fast;
-use crate::make::rows_of;
-use crate::row::Row;
+use crate::ProgramRows;
 use alpha_io::{Sink, Source};
 use alpha_seq::{Event, Fault, Machine};
 use std::alloc::Global;
 use std::marker::Model;
 
-/// How many steps a word of the program are made before its rows are. A row takes about as long to make as a step by
-/// words, so that a run that ends as they are made has paid some two in a hundred for them.
-const STEPS_A_WORD: u64 = 64;
-
 /// The sequential machine with the rows of its program, once they are made. A clause sees the machine.
 #[derive(Drop)]
 pub struct RowMachine {
-    alloc: Global,
     machine: Machine,
-    rows: Option<Vec<Row>>,
-    /// The rows are made once no more than so many units are left; `None` before the first run.
-    until: Option<u64>,
+    rows: ProgramRows,
 }
 
 impl Model for RowMachine {
-    ghost use Rattle.std.specs.Prelude.{IfSome};
     ghost use Rattle.alpha_seq.specs.declared.machine.Machine.{Machine};
-    ghost use Rattle.alpha_rows.specs.Rows.{IsRows};
+    ghost use Rattle.alpha_rows.specs.PassingSteps.{AreRowsOf};
 
     ghost Value = { Machine };
 
     ghost view = { λ m. m.machine };
 
-    ghost invariant = { λ m. IfSome m.rows (λ rows. IsRows m.machine.image rows.items) };
+    ghost invariant = { λ m. AreRowsOf m.machine.image m.rows };
 }
 
 impl RowMachine {
@@ -45,12 +36,8 @@ impl RowMachine {
     pub fn new(alloc: Global, machine: Machine) -> RowMachine
         ensures { result ≡ machine }
     {
-        RowMachine {
-            alloc,
-            machine,
-            rows: None,
-            until: None,
-        }
+        let rows = ProgramRows::new(alloc, &machine.image);
+        RowMachine { machine, rows }
     }
 
     /// The machine.
@@ -69,46 +56,22 @@ impl RowMachine {
     }
 
     /// Makes steps as long as each only goes on, `units` of them at most, and answers how many it made. It may stop
-    /// early: what a step does then is what [`RowMachine::step`] says. `units` are those that are left of a run.
+    /// early: what a step does then is what [`RowMachine::step`] says.
     #[inline(always)]
     pub fn run_fast(&mut self, units: u64) -> u64
         ensures most { result ≤ units }
         ensures went { FastSteps result self.old self.new }
     {
-        match &self.rows {
-            Some(rows) => run_fast(&mut self.machine, rows.as_slice(), units),
-            None => self.run_by_words(units),
-        }
+        self.run_on(units, false)
     }
 
-    // The same before the rows are made. It makes them once enough steps were made.
-    #[inline(never)]
-    fn run_by_words(&mut self, units: u64) -> u64
+    /// The same, but it passes barriers that are no PAL calls too where `barriers` says so.
+    #[inline(always)]
+    pub fn run_on(&mut self, units: u64, barriers: bool) -> u64
         ensures most { result ≤ units }
-        ensures went { FastSteps result self.old self.new }
+        ensures went { PassingSteps barriers result self.old self.new }
     {
-        let until = self.units_to_leave(units);
-        if units > until {
-            return self.machine.run_fast(units - until);
-        }
-        match rows_of(self.alloc, &self.machine.image) {
-            Ok(rows) => self.rows = Some(rows),
-            Err(_) => self.until = Some(0),
-        }
-        0
-    }
-
-    // How many units are left when the rows are made, of those of the first run.
-    fn units_to_leave(&mut self, units: u64) -> u64
-        ensures { self.new ≡ self.old }
-    {
-        let words = u64::from(self.machine.image.words());
-        let until = match self.until {
-            Some(until) => until,
-            None => units.saturating_sub(STEPS_A_WORD * words),
-        };
-        self.until = Some(until);
-        until
+        self.rows.run_fast(&mut self.machine, units, barriers)
     }
 
     /// Makes one step, as [`Machine::step`] does, in user mode.

@@ -1,6 +1,6 @@
 use Rattle.std.proofs.Common.{◌-◌, ◌<◌, ◌≤◌, length}
 use Rattle.alpha_mem.specs.Memory.{IsMemory}
-use Rattle.alpha_seq.specs.FastSteps.{RunsFast}
+use Rattle.alpha_rows.specs.PassingSteps.{RunsOn}
 use Rattle.alpha_rows.proofs.fast.run_fast_from.Given as goal
 
 abbrev pub invariant-words : goal.invariant-words
@@ -9,7 +9,8 @@ invariant-words l = record {
   place : l.at ≤ length l.image.words;
   memory : IsMemory l.regions;
   region_hint : l.region_hint < length l.regions;
-  runs_fast : RunsFast (l.units - l.left) l.image l.initial.regs l.initial.regions l.initial.at l.regs l.regions l.at;
+  runs : RunsOn l.barriers (l.units - l.left) l.image l.initial.regs l.initial.regions l.initial.at l.regs l.regions
+      l.at;
 }
 
 abbrev pub decreases-words : goal.decreases-words

@@ -1,15 +1,6 @@
-use Rattle.std.proofs.Common.{sym, ap, subst}
-use Rattle.std.specs.Prelude.{IfSome}
-use Rattle.alpha_image.specs.Parts.{Parts}
-use Rattle.alpha_seq.specs.State.{Program}
-use Rattle.alpha_seq.proofs.FastRuns.{FastSteps-program}
-use Rattle.alpha_rows.specs.Rows.{IsRows}
+use Rattle.alpha_rows.proofs.PassingRuns.{PassingSteps-fast}
 use Rattle.alpha_rows.proofs.machine.RowMachine.run_fast.Goals as goal
 
--- the steps leave the program, whose rows these are
-pub invariant_of-self : goal.invariant_of-self
-invariant_of-self c =
-    subst (λ (p : Parts). IfSome c.self.inside.rows (λ rows. IsRows p rows.items))
-    (sym (ap (λ (g : Program). g.image)
-    (FastSteps-program c.run_fast.result c.self.inside.machine c.run_fast.new.machine c.run_fast.ensures.went)))
-    c.self.invariant
+pub returns-clause-went : goal.returns-clause-went
+returns-clause-went c =
+    PassingSteps-fast c.run_on.result c.args.self.now c.run_on.new.self c.run_on.ensures.went
