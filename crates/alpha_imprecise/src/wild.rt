@@ -3,18 +3,22 @@ ghost use Rattle.std.specs.Prelude.{◌≡◌, ◌<◌, ◌≤◌, ◌+◌, ◌*
 use crate::step::step;
 use crate::{ChoiceSource, Chooser, Pending};
 use alpha_io::{Sink, Source};
+use alpha_rows::ProgramRows;
 use alpha_seq::{Event, Fault, Machine};
+use std::alloc::Global;
 use std::marker::Model;
 
-/// The imprecise machine: a sequential machine, and a trap that may be pending.
+/// The imprecise machine: a sequential machine with the rows of its program, and a trap that may be pending.
 #[derive(Debug, Drop)]
 pub struct Wild {
     machine: Machine,
     pending: Option<Pending>,
+    rows: ProgramRows,
 }
 
 impl Model for Wild {
     ghost use Rattle.std.specs.Prelude.{◌≡◌, ◌≤◌, true, IfSome};
+    ghost use Rattle.alpha_rows.specs.PassingSteps.{AreRowsOf};
     ghost use Rattle.alpha_imprecise.specs.ImpreciseState.{ImpreciseState};
 
     ghost Value = { ImpreciseState };
@@ -22,7 +26,7 @@ impl Model for Wild {
     ghost view = { λ w. record { machine = w.machine; pending = w.pending } };
 
     ghost invariant = { λ w. (w.machine.kernel.user ≡ true)
-        × IfSome w.pending (λ p. p.waited ≤ 1024) };
+        × IfSome w.pending (λ p. p.waited ≤ 1024) × AreRowsOf w.machine.image w.rows };
 }
 
 impl Wild {
@@ -33,20 +37,22 @@ impl Wild {
     ghost use Rattle.alpha_imprecise.specs.Run.{unit_of};
     ghost use Rattle.alpha_imprecise.specs.Oracle.{oracle_of};
     ghost use Rattle.alpha_imprecise.specs.ImpreciseState.{trap_in};
-    ghost use Rattle.alpha_imprecise.specs.ImpreciseFastSteps.{ImpreciseFastSteps};
+    ghost use Rattle.alpha_imprecise.specs.ImpreciseFastSteps.{ImpreciseFastSteps, ImprecisePassingSteps};
     ghost use Rattle.alpha_imprecise.specs.ImpreciseStepEffect.{imprecise_units, waits_left, ImpreciseStepMade};
     ghost use Rattle.alpha_imprecise.specs.ImpreciseStepEffect.{ImpreciseStepFaulted, StepMadeByChoice};
     ghost use Rattle.alpha_imprecise.specs.ImpreciseStepEffect.{StepFaultedByChoice};
 
     /// The imprecise machine with nothing pending, over a machine in user mode.
-    pub fn new(machine: Machine) -> Wild
+    pub fn new(alloc: Global, machine: Machine) -> Wild
         requires { IsTrue machine.kernel.user }
         ensures machine { result.machine ≡ machine }
         ensures pending { result.pending ≡ None }
     {
+        let rows = ProgramRows::new(alloc, &machine.image);
         Wild {
             machine,
             pending: None,
+            rows,
         }
     }
 
@@ -88,8 +94,19 @@ impl Wild {
         ensures pending { self.new.pending ≡ self.old.pending }
         ensures same { Stays self.old.machine self.new.machine }
     {
+        self.run_on(units, false)
+    }
+
+    /// The same, but it passes barriers that are no PAL calls too where `barriers` says so.
+    #[inline(always)]
+    pub fn run_on(&mut self, units: u64, barriers: bool) -> u64
+        ensures most { result ≤ units }
+        ensures went { ImprecisePassingSteps barriers result self.old self.new }
+        ensures pending { self.new.pending ≡ self.old.pending }
+        ensures same { Stays self.old.machine self.new.machine }
+    {
         match self.pending {
-            None => self.machine.run_fast(units),
+            None => self.rows.run_fast(&mut self.machine, units, barriers),
             _ => 0,
         }
     }
