@@ -5,7 +5,7 @@ use Rattle.std.proofs.lemmas.Bool.Decides.{nat_tests}
 use Rattle.alpha_text.specs.declared.reader.LineFault.{LineFault}
 use Rattle.alpha_token.specs.Tokens.{tokens}
 use Rattle.alpha_text.specs.Reading.{LineStmt, located, line_of, read}
-use Rattle.alpha_quick.specs.Parts.{unlabelled}
+use Rattle.alpha_quick.specs.Parts.{unlabelled, nothing_said}
 use Rattle.alpha_table.specs.declared.form.Form.{Form}
 use Rattle.alpha_asm.specs.declared.kind.SourceKind.{SourceKind}
 use Rattle.alpha_asm.specs.declared.kind.SourceKind.TheVariants as kinds
@@ -24,6 +24,14 @@ pub read_insn : (line : List ℕ) (insn : Form) → line_of (tokens line) ≡ Ok
     → read line ≡ Ok (unlabelled insn)
 unfolding read
 read_insn line insn h = ap (located (length line)) h
+
+-- a line with an item
+pub read_item : (line : List ℕ) (i : LineStmt) → line_of (tokens line) ≡ Ok i → read line ≡ Ok i
+unfolding read
+read_item line i h = ap (located (length line)) h
+
+pub item_at-same : (line : List ℕ) (i : LineStmt) → line_of (tokens line) ≡ Ok i → item_at line ≡ i
+item_at-same line i h = rw (read_item line i h) refl
 
 pub insn_at : (line : List ℕ) (insn : Form) → line_of (tokens line) ≡ Ok (unlabelled insn)
     → item_at line ≡ unlabelled insn
@@ -79,6 +87,11 @@ pub refused_here-insn : (kind : SourceKind) (p : Pass) (insn : Form) (misplaced 
     → refused_here kind p (unlabelled insn) ≡ cond misplaced (Some (Section (p.line + 1))) None
 refused_here-insn kinds.Program p insn misplaced h = rw h refl
 refused_here-insn kinds.Module p insn misplaced h = rw h refl
+
+-- a line that says nothing is refused nowhere
+pub nothing_here : (kind : SourceKind) (p : Pass) → refused_here kind p nothing_said ≡ None
+nothing_here kinds.Program p = refl
+nothing_here kinds.Module p = refl
 
 -- an item that is not refused has a new label
 new_label : (kind : SourceKind) (p : Pass) (i : LineStmt) → refused_here kind p i ≡ None

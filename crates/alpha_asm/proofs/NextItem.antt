@@ -167,9 +167,9 @@ PassSimulates-item is i old new s placed_so fresh a = record {
 }
 
 -- how many data bytes were added
-pub added_size : (old middle new : List ℕ) (cs : List Cell) (n m a b : ℕ) → middle ≡ old ++ raw_cells cs
+pub raw_cells-added_length : (old middle new : List ℕ) (cs : List Cell) (n m a b : ℕ) → middle ≡ old ++ raw_cells cs
     → new ≡ middle ++ replicate n 0 → a ≡ length new → b ≡ length old → n ≡ m → a - b ≡ sum_by cell_size cs + m
-added_size old middle new cs n m a b e f g h k =
+raw_cells-added_length old middle new cs n m a b e f g h k =
     let x : length middle ≡ length old + sum_by cell_size cs =
     ap length e ∙ (length-append old (raw_cells cs) ∙ ap (λ l. length old + l) (length-raw_cells cs)) in
     let zeros : List ℕ = replicate n 0 in

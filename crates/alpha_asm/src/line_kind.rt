@@ -1,7 +1,7 @@
 //! What the lines of a source are to whoever puts instructions before them.
 
 ghost use Rattle.std.specs.Prelude.{◌≡◌, ◌++◌, ◌∷◌, [], true, OnOk};
-ghost use Rattle.alpha_text.specs.Statements.{stmt_of, code};
+ghost use Rattle.alpha_text.specs.Statements.{stmt_of, code, empty};
 ghost use Rattle.alpha_asm.specs.LineKinds.{insn_if, line_kind};
 
 use crate::statement::RelocField;
@@ -99,6 +99,18 @@ impl LineKinds {
         if self.gathers {
             self.items
                 .push(insn_if(!RelocField::Branch.applies_to(insn)))?;
+        }
+        Ok(())
+    }
+
+    /// Adds that of a line without a statement.
+    pub(crate) fn push_blank(&mut self) -> Result<(), AllocError>
+        ensures gathers { self.new.gathers ≡ self.old.gathers }
+        ensures items { OnOk result (self.old.gathers ≡ true →
+            self.new.items.items ≡ self.old.items.items ++ line_kind empty ∷ []) }
+    {
+        if self.gathers {
+            self.items.push(LineKind::Other)?;
         }
         Ok(())
     }

@@ -4,7 +4,7 @@ ghost use Rattle.std.specs.Option.{option_map};
 ghost use Rattle.alpha_text.specs.Statements.{stmt_of};
 ghost use Rattle.alpha_text.specs.Bounds.{IsWithin};
 ghost use Rattle.alpha_text.specs.Reading.{line_stmt_of};
-ghost use Rattle.alpha_quick.specs.Parts.{unlabelled};
+ghost use Rattle.alpha_quick.specs.Parts.{unlabelled, nothing_said};
 ghost use Rattle.alpha_quick.specs.Prescanned.{IsPrescanned};
 ghost use Rattle.alpha_asm.specs.Statement.{cells, coded};
 ghost use Rattle.alpha_asm.specs.LineKinds.{line_kind};
@@ -96,8 +96,27 @@ impl<'a> Pass<'a> {
                 Ok(()) => Ok(kinds.push_insn(&insn)?),
                 Err(fault) => Err(fault),
             },
-            Err(rest) => self.take_rest(kind, line, &rest, kinds),
+            Err(rest) => {
+                if rest.is_blank() {
+                    self.take_blank();
+                    Ok(kinds.push_blank()?)
+                } else {
+                    self.take_rest(kind, line, &rest, kinds)
+                }
+            }
         }
+    }
+
+    // Goes over a line that says nothing.
+    #[inline(always)]
+    fn take_blank(&mut self)
+        requires bounded { IsBounded self.old }
+        requires lines { self.old.line + 1 < 2 ^ 32 }
+        ensures ok { AddsItem nothing_said self.old self.new }
+        ensures taken { (kind : SourceKind) → refused_here kind self.old nothing_said ≡ None }
+        ensures bounded { IsBounded self.new }
+    {
+        self.line += 1;
     }
 
     // Goes over the next line where no instruction alone was read of it. It is a call of its own, so that what a line
