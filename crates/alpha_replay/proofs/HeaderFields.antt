@@ -1,7 +1,6 @@
 -- The numbers at the front: which are good, and what they stand for.
-use Rattle.std.proofs.Common.{◌≡◌, ℕ, zero, suc, ◌<◌, ◌≤◌, Bool, true, false, leb, ltb, None, refl, sym, arith}
-use Rattle.std.specs.Prelude.{◌&&◌}
-use Rattle.std.proofs.lemmas.Bool.{eqb-true, leb-true, ltb-true, le-leb, lt-ltb}
+use Rattle.std.proofs.Common.{◌≡◌, ℕ, zero, suc, ◌<◌, ◌≤◌, true, leb, ltb, None, refl, sym, arith}
+use Rattle.std.proofs.lemmas.Bool.{eqb-true, leb-true, ltb-true, le-leb, lt-ltb, and_parts}
 use Rattle.alpha_words.specs.declared.Completion.{Completion}
 use Rattle.alpha_words.specs.declared.Completion.TheVariants.{Wrap, Saturate, Stop}
 use Rattle.alpha_image.specs.FirstOf.{unless}
@@ -73,14 +72,10 @@ pub record HasNumbers (kind first second : ℕ) : Type 0 where
   pub first_is : ending_first (ending_in kind first second) ≡ first
   pub second_is : ending_second (ending_in kind first second) ≡ second
 
-and-both : (a b : Bool) → a && b ≡ true → (a ≡ true) × (b ≡ true)
-and-both true b e = (refl, e)
-and-both false b e = absurd cc
-
 pub ending_in-HasNumbers : (kind first second : ℕ) → kind < 8 → unused_are_zero kind first second ≡ true
     → HasNumbers kind first second
 ending_in-HasNumbers zero a b h u =
-    let e = and-both _ _ u in
+    let e = and_parts _ _ u in
     record { kind_is = refl; first_is = sym (eqb-true a 0 e.0); second_is = sym (eqb-true b 0 e.1) }
 ending_in-HasNumbers (suc zero) a b h u = record { kind_is = refl; first_is = refl; second_is = sym (eqb-true b 0 u) }
 ending_in-HasNumbers (suc (suc zero)) a b h u = record { kind_is = refl; first_is = refl; second_is = refl }

@@ -1,8 +1,7 @@
 -- The bytes of an item give it again, and it is all that they can give.
 use Rattle.std.proofs.Common.{◌≡◌, ℕ, zero, suc, ◌<◌, ◌≤◌, Bool, true, false, cond, eqb, leb, List, [], ◌∷◌, ◌++◌}
 use Rattle.std.proofs.Common.{length, get_or, drop, Option, Some, None, ◌⊎◌, inl, inr, refl, sym, ap, ◌∙◌, arith}
-use Rattle.std.specs.Prelude.{not, ◌&&◌}
-use Rattle.std.proofs.lemmas.Bool.{eqb-true, ne_eqb, le-leb, leb-true}
+use Rattle.std.proofs.lemmas.Bool.{eqb-true, ne_eqb, le-leb, leb-true, not-true, and_parts}
 use Rattle.alpha_image.specs.Layout.{quadword, longword}
 use Rattle.alpha_image.specs.Reading.{quadword_at, longword_at}
 use Rattle.alpha_image.proofs.LittleEndianNumbers.{IsBytes, quadword_at-front, longword_at-front, drop-quadword}
@@ -32,14 +31,6 @@ cond-Some_or_None : (b : Bool) (j i : Item) → cond b (Some j) None ≡ Some i 
 cond-Some_or_None true j i e = (refl, cc)
 cond-Some_or_None false j i e = absurd cc
 
-and-both : (a b : Bool) → a && b ≡ true → (a ≡ true) × (b ≡ true)
-and-both true b e = (refl, e)
-and-both false b e = absurd cc
-
-not-true : (b : Bool) → not b ≡ true → b ≡ false
-not-true true e = absurd cc
-not-true false e = refl
-
 eqb-positive : (n : ℕ) → eqb n 0 ≡ false → 0 < n
 eqb-positive zero e = absurd cc
 eqb-positive (suc n) e = omega arith
@@ -53,8 +44,8 @@ item_in-ItemAt behind bytes i e =
           elim (cond-Some (eqb (get_or bytes 0 0) 0) _ _ i h.1) [
             | inl u ↦
                 let t = cond-Some_or_None _ _ i u.1 in
-                let ab = and-both _ _ t.0 in
-                let a = and-both _ _ ab.0 in
+                let ab = and_parts _ _ t.0 in
+                let a = and_parts _ _ ab.0 in
                 SeenUnits (eqb-true _ _ u.0) (not-true behind a.0) (leb-true _ _ a.1)
                 (eqb-positive _ (not-true _ ab.1)) t.1
             | inr n ↦
@@ -64,7 +55,7 @@ item_in-ItemAt behind bytes i e =
                       elim (cond-Some (eqb (get_or bytes 0 0) 2) _ _ i n.1) [
                         | inl u ↦
                             let t = cond-Some_or_None _ _ i u.1 in
-                            let ab = and-both _ _ t.0 in
+                            let ab = and_parts _ _ t.0 in
                             SeenWait (eqb-true _ _ u.0) (leb-true _ _ ab.0) (leb-true _ _ ab.1) t.1
                         | inr n ↦ let t = cond-Some_or_None _ _ i n.1 in SeenReport (eqb-true _ _ t.0) long t.1
                       ]

@@ -5,7 +5,7 @@ use Rattle.std.proofs.Common.{append_assoc, append-nil, ◌∙◌, option_and_th
 use Rattle.std.proofs.lemmas.Bool.{eqb-true, and_parts}
 use Rattle.alpha_image.specs.Parts.{Parts as Image}
 use Rattle.alpha_image.specs.FirstOf.{unless}
-use Rattle.std.specs.Option.{option_map, option_or}
+use Rattle.std.specs.Option.{option_map}
 use Rattle.std.proofs.lemmas.List.Sums.{sum_by-cons}
 use Rattle.alpha_table.specs.Class.{Class}
 use Rattle.alpha_seq.specs.State.{Program, State, Event, Went, Barriered, Overflowed, Ends}
@@ -39,6 +39,9 @@ use Rattle.alpha_replay.specs.Moves.{choice_of, move_applies, fits, may_add}
 use Rattle.alpha_replay.specs.Listed.{Played, played_by, move, units, item, listed_then, listed_from, listed, unplayed}
 use Rattle.alpha_replay.specs.Replay.{ending_of, same_ending, ends_as, reports_of, program_by, run_fault, answer_by}
 use Rattle.alpha_replay.specs.Replay.{answered, replayed, IsRun, ending_at, IsSequential}
+use Rattle.alpha_image.proofs.FieldRules.{option_or-both_none}
+use Rattle.alpha_image.proofs.CodeWords.{option_map-none}
+use Rattle.alpha_replay.proofs.HeaderFields.{ending_in-numbers}
 
 -- ---- the moves are steps
 
@@ -65,10 +68,6 @@ move_units (Trips value) = 1
 move_units (Waits adds value) = 0
 move_units Reports = 0
 
-and-second : (a b : Bool) → (a && b) ≡ true → b ≡ true
-and-second true b e = e
-and-second false b e = absurd cc
-
 -- units are used with nothing pending
 unit_is : (o : Option Class) (s : State) (p : Option Trap) (n : ℕ) (m : Move) → fits o s p n m ≡ true
     → unit_of p ≡ move_units m
@@ -89,7 +88,7 @@ move_leads g m p q e =
     let h = t.last_event in
     let did = made_by (finished a.last_event) (move_applies o a.state a.pending p.waited m) (played_by p t) q e in
     let unit =
-    unit_is o a.state a.pending p.waited m (and-second (may_add o m) (fits o a.state a.pending p.waited m) did.1.0) in
+    unit_is o a.state a.pending p.waited m (and_parts (may_add o m) (fits o a.state a.pending p.waited m) did.1.0).1 in
     subst (λ (r : Played). LeadsToPlayed g (move_units m) p r) did.1.1 (record {
       steps = h ∷ [];
       runs = RunsImprecisely-one g a (choice_of m) p.run.left did.0;
@@ -189,39 +188,27 @@ none_differs n (x ∷ xs) (y ∷ ys) e = by (λ h. none_differs (n + 1) xs ys h)
     by rest true f h = ap (λ (k : ℕ). k ∷ xs) (eqb-true x y f) ∙ ap (λ (l : List ℕ). y ∷ l) (rest h)
     by rest false f h = absurd cc
 
-option_or-to_None : {X : Type 0} (a b : Option X) → option_or a b ≡ None → (a ≡ None) × (b ≡ None)
-option_or-to_None None b e = (refl, e)
-option_or-to_None (Some x) b e = absurd cc
-
 unless-None : {X : Type 0} (ok : Bool) (x : X) → unless ok x ≡ None → ok ≡ true
 unless-None true x e = refl
 unless-None false x e = absurd cc
 
-option_map-to_None : {X Y : Type 0} (f : X → Y) (o : Option X) → option_map f o ≡ None → o ≡ None
-option_map-to_None f None e = refl
-option_map-to_None f (Some x) e = absurd cc
-
 no_bytes : (l : List ℕ) → eqb (length l) 0 ≡ true → l ≡ []
 no_bytes [] e = refl
 no_bytes (x ∷ l) e = absurd (let h = eqb-true (length (x ∷ l)) 0 e in omega (arith, h))
-
-ending_again : (e : Ending) → ending_in (ending_kind e) (ending_first e) (ending_second e) ≡ e
-ending_again (endings.Exit value) = refl
-ending_again e = refl
 
 same_is : (a b : Ending) → same_ending a b ≡ true → b ≡ a
 same_is a b e =
     let one = and_parts (eqb (ending_kind a) (ending_kind b) && eqb (ending_first a) (ending_first b))
     (eqb (ending_second a) (ending_second b)) e in
     let two = and_parts (eqb (ending_kind a) (ending_kind b)) (eqb (ending_first a) (ending_first b)) one.0 in
-    sym (ending_again b)
+    sym (ending_in-numbers b)
     ∙ (ap (λ (k : ℕ). ending_in k (ending_first b) (ending_second b))
     (sym (eqb-true (ending_kind a) (ending_kind b) two.0))
     ∙ (ap (λ (k : ℕ). ending_in (ending_kind a) k (ending_second b))
     (sym (eqb-true (ending_first a) (ending_first b) two.1))
     ∙ (ap (λ (k : ℕ). ending_in (ending_kind a) (ending_first a) k)
     (sym (eqb-true (ending_second a) (ending_second b) one.1))
-    ∙ ending_again a)))
+    ∙ ending_in-numbers a)))
 
 -- what no fault says
 record Faultless (p : Parts) (w : ImpreciseRun) : Type 0 where
@@ -233,13 +220,13 @@ record Faultless (p : Parts) (w : ImpreciseRun) : Type 0 where
 faultless : (p : Parts) (w : ImpreciseRun) → run_fault p w ≡ None → Faultless p w
 faultless p w e =
     let bytes = output (seen w.steps) in
-    let one = option_or-to_None (option_map faults.Output (first_difference 0 bytes p.output)) _ e in
-    let two = option_or-to_None (unless (ends_as p.ending w) faults.End) _ one.1 in
-    let three = option_or-to_None (unless (eqb (length w.left) 0) (faults.Input (length w.left))) None two.1 in
+    let one = option_or-both_none (option_map faults.Output (first_difference 0 bytes p.output)) _ e in
+    let two = option_or-both_none (unless (ends_as p.ending w) faults.End) _ one.1 in
+    let three = option_or-both_none (unless (eqb (length w.left) 0) (faults.Input (length w.left))) None two.1 in
     let end = and_parts (same_ending p.ending (ending_of w.at.last_event))
     (finished w.at.last_event || is_none w.at.pending) (unless-None (ends_as p.ending w) faults.End two.0) in
     record {
-      puts = none_differs 0 bytes p.output (option_map-to_None faults.Output (first_difference 0 bytes p.output) one.0);
+      puts = none_differs 0 bytes p.output (option_map-none faults.Output (first_difference 0 bytes p.output) one.0);
       ends = same_is p.ending (ending_of w.at.last_event) end.0;
       settled = end.1;
       left = no_bytes w.left (unless-None (eqb (length w.left) 0) (faults.Input (length w.left)) three.0);

@@ -3,7 +3,7 @@ use Rattle.std.specs.Prelude.{nat_le}
 use Rattle.std.proofs.Common.{◌≡◌, ◌<◌, ◌≤◌, ◌+◌, ◌/◌, ◌%◌, ◌&&◌, ◌||◌, not, ℕ, zero, suc, Bool, true, false, cond, eqb}
 use Rattle.std.proofs.Common.{List, [], ◌∷◌, ◌++◌, drop, Option, Some, None, Ok, refl, sym, ap, subst, ◌∙◌, ⊎_elim}
 use Rattle.std.proofs.Common.{add-one, arith}
-use Rattle.std.proofs.lemmas.Bool.{cases_lt}
+use Rattle.std.proofs.lemmas.Bool.{cases_lt, or_parts, not-false}
 use Rattle.std.proofs.Math.Nat.{eq-or-lt_of_le}
 use Rattle.std.specs.Option.{option_and_then}
 use Rattle.alpha_table.specs.Class.{Class}
@@ -108,10 +108,6 @@ found_move : (g : Program) (s : State) (t : Trap) (found : Option ℕ) → IsMov
 found_move g s t None = record { move = refl; choice = refl }
 found_move g s t (Some at) = lands_move g s at (stops g.completion)
 
-not_or-false : (a b : Bool) → (not a || b) ≡ false → a ≡ true
-not_or-false true b e = refl
-not_or-false false b e = sym e
-
 IsMove-noted : (g : Program) (o : Option Class) (s : State) (p : Option Trap) (n : ℕ) (words input : List ℕ)
     → IsMove (noted_at o s p n words) (imprecise_step_at g o s p (draw_at o s p n words).choice input)
 IsMove-noted g o s None n words input = by (triggers o s) refl
@@ -136,7 +132,8 @@ IsMove-noted g o s (Some t) n words input = by (must_report o s n) refl (eqb (fi
         subst
         (λ (b : Bool). IsMove (Waits (eqb (first_word words / 4 % 2) 1 && adds_here o) (first_word (drop 1 words)))
         (cond (not b) (report g s t) (waited o s t (executing (first_word words) (first_word (drop 1 words))).choice)))
-        (sym (not_or-false (can_wait o s) (nat_le most_waited n) e)) (record { move = refl; choice = refl })
+        (sym (not-false (can_wait o s) (or_parts (not (can_wait o s)) (nat_le most_waited n) e).0))
+        (record { move = refl; choice = refl })
 
 -- a run that is made, as one that is played
 abbrev pub played_in : ChosenRun → Played

@@ -1,6 +1,7 @@
 -- The move that a step was: by the words that chose it, and by the move that was asked for.
 use Rattle.std.proofs.Common.{◌≡◌, ◌&&◌, not, ℕ, Bool, true, false, cond, List, Option, Some, None, refl, ap, ◌∙◌}
 use Rattle.std.proofs.lemmas.Bool.{and_from}
+use Rattle.std.proofs.Math.Bool.{and-false}
 use Rattle.alpha_pal.specs.declared.pal_end.Passed.{Passed}
 use Rattle.alpha_table.specs.Class.{Class}
 use Rattle.alpha_seq.specs.declared.end.End.{End}
@@ -94,10 +95,6 @@ pub record MoveFits (g : Program) (o : Option Class) (s : State) (t : Option Tra
       → (move_applies o s t n m ≡ true)
       × ((input : List ℕ) → imprecise_step_at g o s t (choice_of m) input ≡ imprecise_step_at g o s t c input)
   pub other : (was ≡ m → ⊥) → move_applies o s t n m ≡ false
-
-and-false : (a : Bool) → (a && false) ≡ false
-and-false true = refl
-and-false false = refl
 
 adds_not : (a b : Bool) → a ≡ b → (c : Bool) → (a ≡ true → ⊥) → (a && c) ≡ false
 adds_not a true e c apart = absurd (apart e)

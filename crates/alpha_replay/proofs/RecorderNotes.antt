@@ -1,16 +1,18 @@
 -- What the recorder has of steps, and that its run is that of the notes alone.
 use Rattle.std.proofs.Common.{◌≡◌, ◌<◌, ◌≤◌, ◌+◌, ◌-◌, ◌==◌, ◌&&◌, ◌||◌, not, nat_le, leb, ℕ, zero, suc, Bool, true}
 use Rattle.std.proofs.Common.{false, cond, List, [], ◌∷◌, ◌++◌, length, refl, sym, ap, subst, ◌∙◌, append-nil, arith}
+use Rattle.std.proofs.Common.{⊎_elim}
 use Rattle.std.proofs.lemmas.Bool.{le-leb, eq-eqb}
 use Rattle.std.proofs.lemmas.Bool.Decides.{nat_tests}
 use Rattle.std.proofs.Math.Bool.{or-false}
+use Rattle.alpha_pal.specs.declared.pal_end.Passed.TheVariants.{Nothing}
 use Rattle.alpha_seq.specs.declared.event.Event.{Event}
 use Rattle.alpha_seq.specs.declared.event.Event.TheVariants as events
 use Rattle.alpha_seq.specs.declared.machine.Machine.{Machine}
 use Rattle.alpha_seq.specs.StepLabel.{StepLabel}
 use Rattle.alpha_run.specs.declared.notes.Notes.{Notes}
 use Rattle.alpha_run.specs.Noted.{noted, lines_of, stays}
-use Rattle.alpha_run.specs.Row.{AreWent, lines_by, seen_by, Unstopped}
+use Rattle.alpha_run.specs.Row.{OnlyPassed, ArePassed, lines_by, seen_by, Unstopped}
 use Rattle.alpha_run.specs.RunEffect.{PassesOver}
 use Rattle.alpha_replay.specs.declared.item.Item.{Item}
 use Rattle.alpha_replay.specs.declared.recorder.Recorder.{Recorder}
@@ -149,14 +151,21 @@ has_ones t room n low = by (t.gathered.ones == 0 && length t.gathered.items == m
         let parts = room-parts (length (closed t.gathered)) most_items (units_of (closed t.gathered)) most_units room in
         ones_room t.gathered (most_units - units_of (closed t.gathered)) room (full e) (omega (arith, parts.1)) n less
 
--- ---- steps that only went on
+-- ---- steps that only went on, or passed a barrier
 
-went_builder : (t : BuilderState) (event : Event) (m : Machine) → event ≡ events.Went
-    → built_by t event m ≡ builder_ones t 1
-went_builder t event m e =
-    ap (λ (x : Event). built_by t x m) e
-    ∙ (ap (λ (l : List ℕ). builder_state l (t.put ++ []) (with_ones t.gathered 1)) (append-nil t.taken)
-    ∙ ap (λ (l : List ℕ). builder_state t.taken l (with_ones t.gathered 1)) (append-nil t.put))
+-- a unit more, and nothing taken or put
+one_builder : (t : BuilderState) → builder_state (t.taken ++ []) (t.put ++ []) (with_ones t.gathered 1)
+    ≡ builder_ones t 1
+one_builder t =
+    ap (λ (l : List ℕ). builder_state l (t.put ++ []) (with_ones t.gathered 1)) (append-nil t.taken)
+    ∙ ap (λ (l : List ℕ). builder_state t.taken l (with_ones t.gathered 1)) (append-nil t.put)
+
+passed_builder : (barriers : Bool) (t : BuilderState) (p : StepLabel) → OnlyPassed barriers p
+    → built_by t p.event p.core ≡ builder_ones t 1
+passed_builder barriers t p passed =
+    ⊎_elim (λ (e : p.event ≡ events.Went). ap (λ (x : Event). built_by t x p.core) e ∙ one_builder t)
+    (λ (e : (barriers ≡ true) × (p.event ≡ events.Barrier Nothing)).
+    ap (λ (x : Event). built_by t x p.core) e.1 ∙ one_builder t) passed.event
 
 ones_fit : (t : BuilderState) → builder_fits t ≡ true → has_room (with_ones t.gathered 1) ≡ true
     → builder_fits (builder_ones t 1) ≡ true
@@ -170,39 +179,47 @@ ones_fit t fit room =
 abbrev HasOnes : BuilderState → ℕ → Type 0
 HasOnes t most = (n : ℕ) → n ≤ most → has_room (with_ones t.gathered n) ≡ true
 
-went_fit : (ps : List StepLabel) (t : BuilderState) → AreWent ps → builder_fits t ≡ true → HasOnes t (length ps)
+passed_fit : (barriers : Bool) (ps : List StepLabel) (t : BuilderState) → ArePassed barriers ps
+    → builder_fits t ≡ true → HasOnes t (length ps)
     → AllFit t ps × (built_over t ps ≡ builder_ones t (length ps))
-went_fit [] t went fit room = (tt, ap (λ (n : ℕ). record t { gathered = record t.gathered { ones = n } }) (omega arith))
-went_fit (p ∷ ps) t went fit room =
-    let one = went_builder t p.event p.core went.0.event in
+passed_fit barriers [] t went fit room =
+    (tt, ap (λ (n : ℕ). record t { gathered = record t.gathered { ones = n } }) (omega arith))
+passed_fit barriers (p ∷ ps) t went fit room =
+    let one = passed_builder barriers t p went.0 in
     let fits = ones_fit t fit (room 1 (omega arith)) in
     let more : HasOnes (builder_ones t 1) (length ps) = λ n low.
     let same : t.gathered.ones + (1 + n) ≡ t.gathered.ones + 1 + n = omega arith in
     subst (λ (k : ℕ). has_room (record t.gathered { ones = k }) ≡ true) same (room (1 + n) (omega arith)) in
-    let rest = went_fit ps (builder_ones t 1) went.1 fits more in (
+    let rest = passed_fit barriers ps (builder_ones t 1) went.1 fits more in (
       (ap builder_fits one ∙ fits, subst (λ (x : BuilderState). AllFit x ps) (sym one) rest.0),
       ap (λ (x : BuilderState). built_over x ps) one
           ∙ (rest.1 ∙ ap (λ (n : ℕ). record t { gathered = record t.gathered { ones = n } })
           (let e : t.gathered.ones + 1 + length ps ≡ t.gathered.ones + suc (length ps) = omega arith in e)),
     )
 
-went_lines : (ps : List StepLabel) (r : Recorder) → AreWent ps → lines_by recorded_after lines_recorded r ps ≡ []
-went_lines [] r went = refl
-went_lines (p ∷ ps) r went =
-    ap
-    (λ (e : Event). noted false e p.core ++ lines_by recorded_after lines_recorded (recorded_after r p.event p.core) ps)
-    went.0.event
-    ∙ went_lines ps (recorded_after r p.event p.core) went.1
+passed_line : (barriers : Bool) (p : StepLabel) → OnlyPassed barriers p → noted false p.event p.core ≡ []
+passed_line barriers p passed =
+    ⊎_elim (λ (e : p.event ≡ events.Went). ap (λ (x : Event). noted false x p.core) e)
+    (λ (e : (barriers ≡ true) × (p.event ≡ events.Barrier Nothing)). ap (λ (x : Event). noted false x p.core) e.1)
+    passed.event
 
-pub passes_over : (r : Recorder) (n : ℕ) → builder_fits r.builder ≡ true → n ≤ room_left r
-    → PassesOver recording n r (record { builder = builder_ones r.builder n; full = r.full })
-passes_over r n fit low = λ ps went size.
+passed_lines : (barriers : Bool) (ps : List StepLabel) (r : Recorder) → ArePassed barriers ps
+    → lines_by recorded_after lines_recorded r ps ≡ []
+passed_lines barriers [] r went = refl
+passed_lines barriers (p ∷ ps) r went =
+    ap (λ (l : List ℕ). l ++ lines_by recorded_after lines_recorded (recorded_after r p.event p.core) ps)
+    (passed_line barriers p went.0)
+    ∙ passed_lines barriers ps (recorded_after r p.event p.core) went.1
+
+pub passes_over : (barriers : Bool) (r : Recorder) (n : ℕ) → builder_fits r.builder ≡ true → n ≤ room_left r
+    → PassesOver recording barriers n r (record { builder = builder_ones r.builder n; full = r.full })
+passes_over barriers r n fit low = λ ps went size.
     let parts = and-three_true (nat_le (length r.builder.taken) most_bytes) (nat_le (length r.builder.put) most_bytes)
     (has_room r.builder.gathered) fit in
-    let all = went_fit ps r.builder went fit (λ k less. has_ones r.builder parts.2 k (omega arith)) in
+    let all = passed_fit barriers ps r.builder went fit (λ k less. has_ones r.builder parts.2 k (omega arith)) in
     let seen = fit_unstopped r ps all.0 in (
       ap (λ (k : ℕ). record { builder = builder_ones r.builder k; full = r.full }) (sym size)
           ∙ (ap (λ (t : BuilderState). record { builder = t; full = r.full }) (sym all.1) ∙ sym seen.1),
-      went_lines ps r went,
+      passed_lines barriers ps r went,
       seen.0,
     )

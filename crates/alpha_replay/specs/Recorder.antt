@@ -1,5 +1,5 @@
 -- What looks at the steps of a run, and notes them on a tape.
-use Rattle.std.specs.Prelude.{ℕ, Bool, false, not, ◌||◌, if◌then◌else◌, List, Option, Some, None}
+use Rattle.std.specs.Prelude.{ℕ, Bool, true, false, not, ◌||◌, if◌then◌else◌, List, Option, Some, None}
 use Rattle.alpha_words.specs.declared.Completion.{Completion}
 use Rattle.alpha_seq.specs.declared.machine.Machine.{Machine}
 use Rattle.alpha_seq.specs.declared.event.Event.{Event}
@@ -28,6 +28,10 @@ recorded_after r event m = record { builder = builder_after r.builder event m; f
 
 abbrev pub room_left : Recorder → ℕ
 room_left r = room_of r.builder
+
+-- a barrier that takes and puts nothing is a unit as each step that only goes on
+abbrev pub all_barriers : Recorder → Bool
+all_barriers r = true
 
 abbrev pub recording : Watching Recorder
 recording = watching recorded_after lines_recorded is_past

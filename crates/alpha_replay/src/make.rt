@@ -26,7 +26,7 @@ use std::alloc::Global;
 /// Makes the run that [`alpha_run::run_imprecise`] makes of so many units without `watch`, together with its journal,
 /// whose input is the bytes that the run has taken. `Full` comes directly after the first step that brings the run
 /// past one of the four limits of a journal, before its end is looked at; a device's fault in the same step comes
-/// before it. All memory is taken before the first step.
+/// before it. All memory that it needs is taken before the first step; rows of the code are made where there is more.
 ///
 /// From a machine at the start and with nothing pending the items list the run, as [`crate::laws_of_journaled_runs`]
 /// says.

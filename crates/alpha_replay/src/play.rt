@@ -46,7 +46,7 @@ fn step(wild: &mut Wild, input: &mut SureSource, m: &Move) -> Event
 
 // Makes a move, by a step of the machine, `None` where it is impossible: the step that was made was another move.
 #[inline(always)]
-fn make(
+fn make_move(
     wild: &mut Wild,
     input: &mut SureSource,
     expected: &[u8],
@@ -89,7 +89,7 @@ fn make_units(
     let mut stand = *from;
     let mut left = units - run_fast(wild, &mut stand, units);
     'moves: while left != 0 {
-        match make(wild, input, expected, &stand, &Move::One) {
+        match make_move(wild, input, expected, &stand, &Move::One) {
             Some(to) => stand = to,
             None => return None,
         }
@@ -100,7 +100,7 @@ fn make_units(
 }
 
 // Makes such steps as long as each only goes on, so many at most, and answers how many it made. They put nothing.
-// It may stop early: what the next step does is what `make` says.
+// It may stop early: what the next step does is what `make_move` says.
 #[inline(always)]
 fn run_fast(wild: &mut Wild, cursor: &mut Cursor, units: u32) -> u32
     ensures most { result ≤ units }
@@ -135,11 +135,11 @@ fn play_item(
 {
     match *item {
         Item::Units(units) => make_units(wild, input, expected, from, units),
-        Item::Trigger(value) => make(wild, input, expected, from, &Move::Trips(value)),
+        Item::Trigger(value) => make_move(wild, input, expected, from, &Move::Trips(value)),
         Item::Wait { adds, value } => {
-            make(wild, input, expected, from, &Move::Waits { adds, value })
+            make_move(wild, input, expected, from, &Move::Waits { adds, value })
         }
-        Item::Report => make(wild, input, expected, from, &Move::Reports),
+        Item::Report => make_move(wild, input, expected, from, &Move::Reports),
     }
 }
 

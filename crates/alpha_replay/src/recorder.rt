@@ -16,7 +16,7 @@ pub(crate) struct Recorder {
 }
 
 impl Observer for Recorder {
-    ghost use Rattle.alpha_replay.specs.Recorder.{is_past, lines_recorded, recorded_after, room_left};
+    ghost use Rattle.alpha_replay.specs.Recorder.{is_past, lines_recorded, recorded_after, room_left, all_barriers};
 
     ghost lines = { lines_recorded };
 
@@ -26,9 +26,16 @@ impl Observer for Recorder {
 
     ghost room = { room_left };
 
+    ghost passing = { all_barriers };
+
     #[inline(always)]
     fn room(&self) -> u64 {
         self.builder.room()
+    }
+
+    #[inline(always)]
+    fn passes_barriers(&self) -> bool {
+        true
     }
 
     #[inline(always)]

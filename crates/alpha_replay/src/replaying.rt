@@ -153,7 +153,7 @@ fn machine_at_start(
 {
     match Machine::new(alloc, image, completion) {
         Ok(machine) => {
-            let wild = Wild::new(machine);
+            let wild = Wild::new(alloc, machine);
             Ok(wild)
         }
         Err(_) => Err(ReplayFault::NoMemory),
@@ -195,7 +195,7 @@ fn play_all(
 
 /// Replays a journal on an image: plays its items from the start of the image's program, over the
 /// journal's input, and answers whether they are steps of the imprecise machine that put the journal's
-/// output, end as it says and take its whole input. Memory is taken before the first step: that of a
+/// output, end as it says and take its whole input. The memory that it needs is taken before the first step: that of a
 /// machine, and of the input.
 ///
 /// # Errors

@@ -54,19 +54,19 @@ moves-preserved c =
     let most : n ≤ left - 1 = c.run_fast-left.ensures.most in
     let more : a.units - left + 1 + n ≡ a.units - (left - 1 - n) = omega (arith, most, c.moves.invariant.most) in
     let next = did_next a.expected.now (a.units - left) start (place c.moves.wild c.moves.input.left c.moves.stand)
-    (place c.make.new.wild c.make.new.input.left c.in-Some.to)
+    (place c.make_move.new.wild c.make_move.new.input.left c.in-Some.to)
     c.moves.invariant.effect c.in-Some.ensures.made in
     record {
       most = omega (arith, c.moves.invariant.most);
       effect =
           subst (λ (k : ℕ). ReplayEffect a.expected.now (λ g p. units g k p) start
-          (place c.run_fast-left.new.wild c.make.new.input.left c.run_fast-left.new.cursor))
+          (place c.run_fast-left.new.wild c.make_move.new.input.left c.run_fast-left.new.cursor))
           more
           (subst (λ (s : Cursor). ReplayEffect a.expected.now (λ g p. units g (a.units - left + 1 + n) p) start
-          (place c.run_fast-left.new.wild c.make.new.input.left s))
+          (place c.run_fast-left.new.wild c.make_move.new.input.left s))
           (sym c.run_fast-left.ensures.stand)
-          (ReplayEffect-any a.expected.now n (a.units - left + 1) start c.make.new.wild c.run_fast-left.new.wild
-          c.make.new.input.left c.in-Some.to c.run_fast-left.ensures.over next c.run_fast-left.ensures.went));
+          (ReplayEffect-any a.expected.now n (a.units - left + 1) start c.make_move.new.wild c.run_fast-left.new.wild
+          c.make_move.new.input.left c.in-Some.to c.run_fast-left.ensures.over next c.run_fast-left.ensures.went));
       seen =
           subst (λ (s : Compared). s.at ≤ length a.expected.now)
           (sym (ap (λ (s : Cursor). s.seen) c.run_fast-left.ensures.stand ∙ cursor_seen-after c.in-Some.to n))

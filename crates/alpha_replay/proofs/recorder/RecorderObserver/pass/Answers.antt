@@ -1,4 +1,4 @@
-use Rattle.std.proofs.Common.{sym, subst}
+use Rattle.std.proofs.Common.{true, sym, subst}
 use Rattle.alpha_run.specs.RunEffect.{PassesOver}
 use Rattle.alpha_replay.specs.Recorder.{recording}
 use Rattle.alpha_replay.specs.BuilderState.{BuilderState}
@@ -8,6 +8,6 @@ use Rattle.alpha_replay.proofs.recorder.RecorderObserver.pass.Goals as goal
 pub returns : goal.returns
 returns c =
     subst (λ (t : BuilderState).
-    PassesOver recording c.args.count c.args.self.now (record { builder = t; full = c.args.self.now.full }))
+    PassesOver recording true c.args.count c.args.self.now (record { builder = t; full = c.args.self.now.full }))
     (sym c.note_ones.ensures.value)
-    (passes_over c.args.self.now c.args.count c.note_ones.ensures.within c.requires)
+    (passes_over true c.args.self.now c.args.count c.note_ones.ensures.within c.requires)

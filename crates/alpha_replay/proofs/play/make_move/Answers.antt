@@ -4,7 +4,7 @@ use Rattle.alpha_seq.specs.declared.machine.Machine.{Machine}
 use Rattle.alpha_replay.specs.Compared.{Sees}
 use Rattle.alpha_replay.specs.Events.{move_by, put_by}
 use Rattle.alpha_replay.proofs.MoveRows.{fails_fitting, did_move}
-use Rattle.alpha_replay.proofs.play.make.Goals as goal
+use Rattle.alpha_replay.proofs.play.make_move.Goals as goal
 
 pub returns-then-ne-clause-refused : goal.returns-then-ne-clause-refused
 returns-then-ne-clause-refused c =
