@@ -137,8 +137,9 @@ EndsAsRun-fails_always (imprecise options choices force name) status s fails =
     λ plan accepted read. inr (on_the_way status fails)
 EndsAsRun-fails_always (make command name made) status s fails = tt
 EndsAsRun-fails_always (link entry made names) status s fails = tt
-EndsAsRun-fails_always (replay name journal) status s fails = tt
-EndsAsRun-fails_always (record_run options choices force name made) status s fails = tt
+EndsAsRun-fails_always (replay name journal) status s fails = λ image listed read. inr fails
+EndsAsRun-fails_always (record_run options choices force name made) status s fails =
+    λ plan middle replies accepted read behind. inl fails
 EndsAsRun-fails_always (trial blocks) status s fails = tt
 
 -- and a sink that fails last leaves what was decided so

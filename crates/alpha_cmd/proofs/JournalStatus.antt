@@ -1,8 +1,9 @@
 -- The statuses of `record`, and what becomes of files under them.
 use Rattle.std.proofs.Common.{◌≡◌, ◌≢◌, ◌⊎◌, ◌∙◌, ℕ, ◌%◌, ◌^◌, Bool, true, false, List, Option, None, Some, refl, sym}
-use Rattle.std.proofs.Common.{ap, subst, inl, inr, Result, Ok, Err, IfOk}
+use Rattle.std.proofs.Common.{ap, subst, inl, inr, Result, Ok, Err, IfOk, [], ◌++◌, ◌∷◌, append-nil}
 use Rattle.alpha_io.specs.declared.Failed.{Failed}
 use Rattle.alpha_io.specs.Files.{HasFile}
+use Rattle.alpha_io.specs.History.{Reply, Kept}
 use Rattle.alpha_io.specs.ShelfChange.{ShelfChange}
 use Rattle.alpha_io.specs.SinkChange.{SinkChange}
 use Rattle.alpha_request.specs.declared.options.RunOptions.{RunOptions}
@@ -10,7 +11,7 @@ use Rattle.alpha_request.specs.Origin as choices
 use Rattle.alpha_seq.specs.declared.end.End.{End}
 use Rattle.alpha_seq.specs.declared.end.End.TheVariants as ended_by
 use Rattle.alpha_imprecise.specs.ChosenRun.{LostTrap}
-use Rattle.alpha_replay.specs.Journal.{Parts, spelling}
+use Rattle.alpha_replay.specs.Journal.{Parts, IsJournal, spelling}
 use Rattle.alpha_cmd.specs.declared.decision.Decision.{Decision}
 use Rattle.alpha_cmd.specs.declared.status.Status.{Status}
 use Rattle.alpha_cmd.specs.declared.status.Status.TheVariants.{ShelfFault, NoMemory, JournalFull}
@@ -23,12 +24,15 @@ use Rattle.alpha_cmd.specs.Stage.{StopsBy, stop_status, stop_line}
 use Rattle.alpha_cmd.specs.Status.{done, refused, ended, class_of}
 use Rattle.alpha_cmd.specs.Commands.Imprecise.{Plan, drawn_status, imprecise_status, Planned}
 use Rattle.alpha_cmd.specs.Commands.Imprecise.{IsEndStatus as IsImpreciseEnd}
+use Rattle.alpha_cmd.specs.Drawn.{but_drawn}
 use Rattle.alpha_cmd.specs.Ends.{status_in}
+use Rattle.alpha_cmd.specs.RunsAsked.{EndsPlan, EndsRecord}
 use Rattle.alpha_cmd.specs.Commands.Record.{unwatched, IsEndStatus, kind, there, RunsOn, IsOver, KeptBehind, stands}
 use Rattle.alpha_cmd.specs.Commands.Record.{untaken, lost, spent}
 use Rattle.alpha_cmd.proofs.Commands.Imprecise.{MayShowImprecise-MayLose, imprecise-plain}
 use Rattle.alpha_cmd.proofs.Commands.Record.{record_form-lawful}
 use Rattle.alpha_cmd.proofs.FormLaws.{is_fault}
+use Rattle.alpha_cmd.proofs.ImpreciseEnds.{undrawn_status}
 use Rattle.alpha_cmd.proofs.Lawful.{IsRefusal}
 
 -- ---- no other status is that of a run's end
@@ -102,6 +106,60 @@ StopsBy-not_imprecise_status options drawn force file out w shelf end trap n sto
 StopsBy-not_imprecise_status options drawn force file out w shelf end trap n stop e (inr (inr h)) =
     journal_status-no_end end trap n (stop_status stop) e (inr (ap (λ s. is_fault (stop_status s)) h.0))
 
+-- ---- how a run ends
+
+-- the status of one that was made
+pub RunsOn-end : (options : RunOptions) (force : Bool) (input : Option (List ℕ)) (plan : Plan) (p : Parts)
+    (d : Decision) (left : Option (List ℕ)) (o n : SinkChange) → RunsOn options force input plan p d left o n
+    → IsImpreciseEnd force d.status
+RunsOn-end options force input plan p d left o n run = (
+  run.shown.end,
+  (
+    run.shown.lost,
+    (
+      run.shown.drawn % 2 ^ 64,
+      MayShowImprecise-MayLose (unwatched options) force input plan run.shown run.may,
+      ap (λ (a : Answer). a.status) run.says,
+    ),
+  ),
+)
+
+pub IsImpreciseEnd-EndsPlan : (force : Bool) (status : Status) → IsImpreciseEnd force status → EndsPlan force status
+IsImpreciseEnd-EndsPlan true status is = is
+IsImpreciseEnd-EndsPlan false status (end, (trap, (n, none, is))) =
+    (end, ap but_drawn (is ∙ ap (λ (t : Option LostTrap). imprecise_status end t n) none) ∙ undrawn_status end n)
+
+-- and of one that wasn't, for which the shelf was asked for nothing
+pub IsOver-EndsRecord : (force : Bool) (out : List ℕ) (s : Status) → IsOver s → EndsRecord force out [] s
+IsOver-EndsRecord force out s (inl h) = inr (inl (inr h, refl))
+IsOver-EndsRecord force out s (inr (inl h)) = inr (inl (inl h, refl))
+IsOver-EndsRecord force out s (inr (inr (inl h))) = inl (inr h)
+IsOver-EndsRecord force out s (inr (inr (inr h))) = inl (inl h)
+
+-- by what became of the keep behind one that was
+pub kept_EndsRecord : (old middle new : List Reply) (force : Bool) (out : List ℕ) (p : Parts) (d r : Decision)
+    → IsJournal p → middle ≡ old → IsImpreciseEnd force d.status
+    → ((r.status ≡ NoMemory) × (new ≡ middle))
+    ⊎ (((r ≡ d) × (new ≡ middle ++ Kept out (spelling p) true ∷ []))
+    ⊎ ((r.status ≡ ShelfFault) × (new ≡ middle ++ Kept out (spelling p) false ∷ [])))
+    → (replies : List Reply) × (new ≡ old ++ replies) × EndsRecord force out replies r.status
+kept_EndsRecord old middle new force out p d r good same ends (inl (none, stays)) =
+    ([], stays ∙ (same ∙ sym (append-nil old)), inl (inl none))
+kept_EndsRecord old middle new force out p d r good same ends (inr (inl (is, then))) = (
+  Kept out (spelling p) true ∷ [],
+  then ∙ ap (λ (l : List Reply). l ++ Kept out (spelling p) true ∷ []) same,
+  inr (inr (inl (
+    IsImpreciseEnd-EndsPlan force r.status
+        (subst (IsImpreciseEnd force) (sym (ap (λ (x : Decision). x.status) is)) ends),
+    record { journal = p; good = good; is = refl },
+  ))),
+)
+kept_EndsRecord old middle new force out p d r good same ends (inr (inr (failed, then))) = (
+  Kept out (spelling p) false ∷ [],
+  then ∙ ap (λ (l : List Reply). l ++ Kept out (spelling p) false ∷ []) same,
+  inr (inr (inr (failed, record { journal = p; good = good; is = refl }))),
+)
+
 -- ---- input and files
 
 pub IsOver-MayTakeBy : (force : Bool) (out : List ℕ) (s : Status) → IsOver s → MayTakeBy (kind force out) s
@@ -118,17 +176,8 @@ module _ (options : RunOptions) (force : Bool) (out : List ℕ) (input : Option 
 
   run_ends : r ≡ d → IsEndStatus force r.status
   run_ends e =
-      inl (
-        run.shown.end,
-        (
-          run.shown.lost,
-          (
-            run.shown.drawn % 2 ^ 64,
-            MayShowImprecise-MayLose (unwatched options) force input plan run.shown run.may,
-            ap (λ (x : Decision). x.status) e ∙ end_is,
-          ),
-        ),
-      )
+      inl (subst (IsImpreciseEnd force) (sym (ap (λ (x : Decision). x.status) e))
+      (RunsOn-end options force input plan p d left o n run))
 
   alone : (status : Status) → SaysAlone status r → r.status ≡ status
   alone status says = ap (λ (a : Answer). a.status) (says None)

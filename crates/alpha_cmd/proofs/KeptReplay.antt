@@ -3,7 +3,7 @@ use Rattle.std.proofs.Common.{◌≡◌, ◌≤◌, ◌*◌, ◌∙◌, ◌++◌
 use Rattle.std.proofs.Common.{refl, ap, arith}
 use Rattle.std.proofs.lemmas.List.{length-append}
 use Rattle.std.specs.List.{flat_map}
-use Rattle.alpha_io.specs.Files.{HasFile}
+use Rattle.alpha_io.specs.Files.{Files, HasFile}
 use Rattle.alpha_image.specs.Parts.{Parts as Image, image_spelling}
 use Rattle.alpha_request.specs.declared.options.RunOptions.{RunOptions}
 use Rattle.alpha_request.specs.Origin.{Origin}
@@ -99,21 +99,23 @@ replay_done file out v a image p files is good there run answered =
     answers)
 
 pub kept_replay : (options : RunOptions) (choices : Origin)
-    (force : Bool) (file out : List ℕ) (w v : World) (a : Answer)
+    (force : Bool) (file out image journal : List ℕ) (w v : World) (new : Files) (a : Answer)
     → IsSome w.input → IsSome v.files
-    → (kept : KeepsRun options choices force file out w v.files)
-    → ImageOf v.files file (continues kept.0.image)
-    → AnswerBy (replays.steps file out) v a → a.status ≡ Done 0
-kept_replay options choices force file out w v a told files (plan, planned, (p, good, has, there)) image is =
-    replay_done file out v a plan.image p files image good there (told_journal options w.input plan p told has) is
+    → (kept : KeepsRun options choices force file out w new)
+    → ImageOf v.files image (continues kept.0.image) → HasFile v.files journal (spelling kept.2.0)
+    → AnswerBy (replays.steps image journal) v a → a.status ≡ Done 0
+kept_replay options choices force file out image journal w v new a told files (plan, planned, (p, good, has, before))
+    found there is =
+    replay_done image journal v a plan.image p files found good there (told_journal options w.input plan p told has) is
 
 -- by the bytes that were read and kept
-pub read_replay : (options : RunOptions) (choices : Origin) (force : Bool) (file out input : List ℕ) (status : Status)
-    (c : Call) (v : World) (a : Answer) → c.input.old.left ≡ Some input
+pub read_replay : (options : RunOptions) (choices : Origin) (force : Bool) (file out image journal input : List ℕ)
+    (status : Status) (c : Call) (v : World) (a : Answer) → c.input.old.left ≡ Some input
     → (r : ReadsAndKeeps c.shelf choices file out (λ plan p. ShowsRecord options force plan p status c))
-    → IsSome v.files → HasFile v.files file (image_spelling r.plan.image) → HasFile v.files out (spelling r.journal)
-    → AnswerBy (replays.steps file out) v a → a.status ≡ Done 0
-read_replay options choices force file out input status c v a told r files image journal is =
-    replay_done file out v a r.plan.image r.journal files
-    (spelling-ImageOf r.plan.image v.files file r.is.good image) r.good journal
+    → IsSome v.files → HasFile v.files image (image_spelling r.plan.image)
+    → HasFile v.files journal (spelling r.journal)
+    → AnswerBy (replays.steps image journal) v a → a.status ≡ Done 0
+read_replay options choices force file out image journal input status c v a told r files found there is =
+    replay_done image journal v a r.plan.image r.journal files
+    (spelling-ImageOf r.plan.image v.files image r.is.good found) r.good there
     (recorded_replays options r.plan.image input r.plan.ahead r.journal (r.has.ran.told input told)) is

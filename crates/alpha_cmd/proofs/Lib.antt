@@ -30,6 +30,7 @@ pub mod RunsOnReplies
 pub mod InputFreePrograms
 pub mod RecordedRuns
 pub mod ReplayedRuns
+pub mod ReplaysRead
 pub mod SparesFiles
 pub mod StageLaws
 pub mod StreamedWrites

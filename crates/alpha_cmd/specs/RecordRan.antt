@@ -64,6 +64,12 @@ pub record ReadsAndKeeps (s : ShelfChange) (choices : Origin) (file out : List �
   pub kept : s.history ≡ middle ++ Kept out (journals.spelling journal) true ∷ []
   pub has : P plan journal
 
+-- These replies are one alone, to the call that was to keep a good journal under this name, which was done or not.
+pub record AsksToKeep (out : List ℕ) (done : Bool) (replies : List Reply) : Type 0 where
+  pub journal : Parts
+  pub good : IsJournal journal
+  pub is : replies ≡ Kept out (journals.spelling journal) done ∷ []
+
 -- its output and its lines were written, and its status and its last line are still to be said
 pub record DecidesRecord (options : RunOptions) (force : Bool) (plan : Plan) (p : Parts) (decision : Decision)
     (d : Drawn) (out sink : SinkChange) : Type 0 where

@@ -1,8 +1,8 @@
 -- What a call of whatever words shows that ask for a run, a replay, a session or a listing, by the bytes that the calls
 -- of its devices gave and took.
-use Rattle.std.specs.Prelude.{◌≡◌, ◌⊎◌, ℕ, Bool, true, false, List, [], Result, IfOk}
+use Rattle.std.specs.Prelude.{◌≡◌, ◌⊎◌, ℕ, Bool, true, false, List, [], ◌++◌, Result, IfOk}
 use Rattle.alpha_io.specs.declared.Failed.{Failed}
-use Rattle.alpha_io.specs.History.{IsReadWhole}
+use Rattle.alpha_io.specs.History.{Reply, IsReadWhole}
 use Rattle.alpha_io.specs.ShelfChange.{ShelfChange}
 use Rattle.alpha_io.specs.SinkChange.{SinkChange, Puts}
 use Rattle.alpha_dis.specs.Listing.{listing}
@@ -17,6 +17,7 @@ use Rattle.alpha_seq.specs.Run.{output, notes}
 use Rattle.alpha_seq.specs.Devices.{Drawn}
 use Rattle.alpha_cmd.specs.declared.decision.Decision.{Decision}
 use Rattle.alpha_cmd.specs.declared.status.Status.{Status}
+use Rattle.alpha_cmd.specs.declared.status.Status.TheVariants.{ShelfFault, InputFault, SinkFault, NoMemory, JournalFull}
 use Rattle.alpha_cmd.specs.Status.{class_of, done, ended}
 use Rattle.alpha_cmd.specs.Asks.{AsksFor}
 use Rattle.alpha_cmd.specs.Call.{Call}
@@ -29,8 +30,8 @@ use Rattle.alpha_cmd.specs.ImpreciseRan.{ShowsImprecise, DecidesImprecise}
 use Rattle.alpha_cmd.specs.OfImage.Debug as sessions
 use Rattle.alpha_cmd.specs.PlanRead.{IsPlanRead, ReadsPlan}
 use Rattle.alpha_cmd.specs.Ran.{RunOnReplies, ShowsRun, IsRunEnd, FailsOnTheWay, EndsWhere, end_on}
-use Rattle.alpha_cmd.specs.RecordRan.{ShowsRecord, DecidesRecord, ReadsAndKeeps}
-use Rattle.alpha_cmd.specs.ReplayRan.{ReplaysFiles}
+use Rattle.alpha_cmd.specs.RecordRan.{ShowsRecord, DecidesRecord, ReadsAndKeeps, AsksToKeep}
+use Rattle.alpha_cmd.specs.ReplayRan.{ReplaysFiles, EndsWhereReplay}
 use Rattle.alpha_cmd.specs.RunAnswer.{run_status, run_line}
 use Rattle.alpha_cmd.specs.SessionRan.{ShowsSession, DecidesSession}
 use Rattle.alpha_cmd.specs.ShowsDone.{ShowsDone, DecidesDone, IsDoneOrFails}
@@ -80,6 +81,22 @@ EndsWherePlan force choices file status s =
     (plan : Plan) → (force ≡ false → IsAccepted plan.image.words) → IsPlanRead s.past s.history choices file plan
     → EndsPlan force status ⊎ FailsOnTheWay status
 
+-- How a run with a journal ends, by the replies to what the shelf was asked behind the image and the words. Memory ran
+-- out or a sink failed. Or the input failed or the journal is full, and the shelf was asked for nothing. Or it was
+-- asked to keep a journal: where it did, the status is that of an end, and else that of its fault.
+abbrev pub EndsRecord : Bool → List ℕ → List Reply → Status → Type 0
+EndsRecord force out replies status =
+    ((status ≡ NoMemory) ⊎ (status ≡ SinkFault))
+    ⊎ ((((status ≡ InputFault) ⊎ (status ≡ JournalFull)) × (replies ≡ []))
+    ⊎ ((EndsPlan force status × AsksToKeep out true replies)
+    ⊎ ((status ≡ ShelfFault) × AsksToKeep out false replies)))
+
+-- It ends so where the bytes spell an image that may be run, and a file of choices was given, before these replies.
+abbrev pub EndsWhereRecord : Bool → Origin → List ℕ → List ℕ → Status → ShelfChange → Type 0
+EndsWhereRecord force choices file out status s =
+    (plan : Plan) (middle replies : List Reply) → (force ≡ false → IsAccepted plan.image.words)
+    → IsPlanRead s.past middle choices file plan → s.history ≡ middle ++ replies → EndsRecord force out replies status
+
 -- how it ends where the bytes spell an image
 abbrev pub EndsOf : ImageCommand → Status → Type 0
 EndsOf images.Check status = Unit {0}
@@ -90,8 +107,10 @@ EndsOf images.Debug status = sessions.IsEndStatus status ⊎ FailsOnTheWay statu
 abbrev pub EndsAsRun : Command → Status → ShelfChange → Type 0
 EndsAsRun (of_image what file) status s =
     (image : Parts) → IsImage image → IsReadWhole s.past s.history file (image_spelling image) → EndsOf what status
+EndsAsRun (replay file journal) status s = EndsWhereReplay file journal status s
 EndsAsRun (run options file) status s = EndsWhere (λ image. Unit {0}) file status s
 EndsAsRun (imprecise options choices force file) status s = EndsWherePlan force choices file status s
+EndsAsRun (record_run options choices force file out) status s = EndsWhereRecord force choices file out status s
 EndsAsRun _ status s = Unit {0}
 
 -- The first says what is shown where it has ended, and the second when it has.

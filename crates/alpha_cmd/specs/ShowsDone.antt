@@ -12,9 +12,13 @@ pub record ShowsDone (text : List ℕ) (status : Status) (c : Call) : Type 0 whe
   pub put : Puts c.out text
   pub noted : Puts c.notes []
 
--- it is done, or memory ran out or a sink failed
+-- the status is this one, or memory ran out or a sink failed
+abbrev pub IsOrFails : Status → Status → Type 0
+IsOrFails wanted status = (status ≡ wanted) ⊎ ((status ≡ NoMemory) ⊎ (status ≡ SinkFault))
+
+-- so it is of a command that is done
 abbrev pub IsDoneOrFails : Status → Type 0
-IsDoneOrFails status = (status ≡ Done 0) ⊎ ((status ≡ NoMemory) ⊎ (status ≡ SinkFault))
+IsDoneOrFails status = IsOrFails (Done 0) status
 
 -- A front of the text was put and nothing noted, and it is decided to put the rest of it and to note nothing.
 pub record DecidesDone (text : List ℕ) (decision : Decision) (out sink : SinkChange) : Type 0 where

@@ -1,6 +1,7 @@
 //! `run --imprecise FILE`: a run of the image's program by the imprecise machine.
 
-ghost use Rattle.std.specs.Prelude.{◌≡◌, ◌⊎◌, ℕ, Bool, false, IfOk, IfErr, OnErr};
+ghost use Rattle.std.specs.Prelude.{◌≡◌, ◌⊎◌, ◌++◌, ℕ, Bool, List, false, IfOk, IfErr, OnErr};
+ghost use Rattle.alpha_io.specs.History.{Reply};
 ghost use Rattle.alpha_io.specs.ShelfChange.{shelf_change};
 ghost use Rattle.alpha_io.specs.SinkChange.{sink_change};
 ghost use Rattle.alpha_shadow.specs.Broken.{IsAccepted};
@@ -100,9 +101,10 @@ pub(crate) fn prepare<H: Shelf>(
     ensures begun { IfOk result (IsBegun asked.now.options) }
     ensures read { IfOk result (λ begun. IsPlanRead (H.replies shelf.old) (H.replies shelf.new)
         (origin_of asked.now.choices) asked.now.file.now (plan_in begun)) }
-    ensures whole { (plan : wilds.Plan) → (asked.now.force ≡ false → IsAccepted plan.image.words)
-        → IsPlanRead (H.replies shelf.old) (H.replies shelf.new) (origin_of asked.now.choices) asked.now.file.now plan
-        → IfErr result (λ stop. stop ≡ Stop.OfStatus Status.NoMemory) }
+    ensures first { (plan : wilds.Plan) (middle rest : List Reply)
+        → (asked.now.force ≡ false → IsAccepted plan.image.words)
+        → IsPlanRead (H.replies shelf.old) middle (origin_of asked.now.choices) asked.now.file.now plan
+        → H.replies shelf.new ≡ middle ++ rest → IfErr result (λ stop. stop ≡ Stop.OfStatus Status.NoMemory) }
 {
     let plan = read_plan(alloc, asked.file, &asked.choices, shelf)?;
     require_pass(&plan, asked.force)?;
@@ -120,9 +122,9 @@ fn read_plan<H: Shelf>(
         (λ plan. plan_by plan.image (ahead_in plan.chooser)) result (shelf_change H.Shelf shelf.old shelf.new) }
     ensures read { IfOk result (λ plan. IsPlanRead (H.replies shelf.old) (H.replies shelf.new)
         (origin_of choices.now) file.now (plan_by plan.image (ahead_in plan.chooser))) }
-    ensures whole { (plan : wilds.Plan)
-        → IsPlanRead (H.replies shelf.old) (H.replies shelf.new) (origin_of choices.now) file.now plan
-        → IfErr result (λ stop. stop ≡ Stop.OfStatus Status.NoMemory) }
+    ensures first { (plan : wilds.Plan) (middle rest : List Reply)
+        → IsPlanRead (H.replies shelf.old) middle (origin_of choices.now) file.now plan
+        → H.replies shelf.new ≡ middle ++ rest → IfErr result (λ stop. stop ≡ Stop.OfStatus Status.NoMemory) }
 {
     let image = load(alloc, shelf, file)?;
     let chooser = chooser_of(alloc, choices, shelf)?;
@@ -150,7 +152,7 @@ fn begin(alloc: Global, plan: Plan, options: RunOptions) -> Result<Begun, Stop>
 {
     match Machine::new(alloc, plan.image, options.complete) {
         Ok(machine) => {
-            let wild = Wild::new(machine);
+            let wild = Wild::new(alloc, machine);
             let chooser = CountingChooser::new(plan.chooser);
             Ok(Begun { wild, chooser })
         }

@@ -56,7 +56,7 @@ pub fn laws_of_listed_files()
 /// where the program has exited, is its own.
 ///
 /// Whatever the input tells, each answer of `run --imprecise FILE` is one of `run FILE`, but for that number.
-pub fn laws_of_restarts()
+pub fn laws_of_checked_runs()
     ensures accepted { (image : Parts) → IsImage image → IsAccepted image.words
         → IsRestartable image }
     ensures answers { (options : RunOptions) (choices : Origin) (force : Bool) (file : List ℕ)
@@ -115,9 +115,9 @@ pub fn laws_of_unread_inputs()
 
 /// The laws of accepted files. The spelling of a good image is short enough for a file of any call; and
 /// where it stands under a name, `check` of that name is done if the image is accepted. A seed has
-/// words, and so has a file of choices within its limit. So what [`laws_of_restarts`] and the clauses of
+/// words, and so has a file of choices within its limit. So what [`laws_of_checked_runs`] and the clauses of
 /// [`alpha_top`](crate::alpha_top) ask can be met: with a seed, they hold of each accepted image.
-pub fn laws_of_accepted_files()
+pub fn laws_of_checkable_files()
     ensures spelled { (image : Parts) (files : Files) (file : List ℕ) → IsImage image
         → HasFile files file (image_spelling image) → ImageOf files file (continues image) }
     ensures checked { (image : Parts) (w : World) (file : List ℕ) → IsImage image
@@ -139,22 +139,22 @@ pub fn laws_of_kept_modules()
         → HasAccepted new out }
 {}
 
-/// The law of records: where a call of `record` has kept the journal of a run over a told input, and the
-/// image's file spells the image of that run where the replay is asked for, the replay of the journal on it is
-/// done. It is never refused. So it is too where the files then hold the bytes that the shelf's calls gave and
-/// kept when the run was recorded, whatever the shelf told.
+/// The law of records: where a call of `record` has kept the journal of a run over a told input, and files of
+/// whatever names spell the image of that run and this journal where the replay is asked for, the replay of the
+/// journal on it is done. It is never refused. So it is too where the files then hold the bytes that the shelf's
+/// calls gave and kept when the run was recorded, whatever the shelf told.
 pub fn laws_of_records()
-    ensures kept { (options : RunOptions) (choices : Origin) (force : Bool) (file out : List ℕ)
-        (w v : World) (a : Answer) → IsSome w.input → IsSome v.files
-        → (kept : KeepsRun options choices force file out w v.files)
-        → ImageOf v.files file (continues kept.0.image)
-        → AnswerBy (replays.steps file out) v a → a.status ≡ Done 0 }
-    ensures read { (options : RunOptions) (choices : Origin) (force : Bool) (file out input : List ℕ)
+    ensures kept { (options : RunOptions) (choices : Origin) (force : Bool) (file out image journal : List ℕ)
+        (w v : World) (new : Files) (a : Answer) → IsSome w.input → IsSome v.files
+        → (kept : KeepsRun options choices force file out w new)
+        → ImageOf v.files image (continues kept.0.image) → HasFile v.files journal (spelling kept.2.0)
+        → AnswerBy (replays.steps image journal) v a → a.status ≡ Done 0 }
+    ensures read { (options : RunOptions) (choices : Origin) (force : Bool) (file out image journal input : List ℕ)
         (status : Status) (c : Call) (v : World) (a : Answer) → c.input.old.left ≡ Some input
         → (r : ReadsAndKeeps c.shelf choices file out (λ plan p. ShowsRecord options force plan p status c))
-        → IsSome v.files → HasFile v.files file (image_spelling r.plan.image)
-        → HasFile v.files out (spelling r.journal)
-        → AnswerBy (replays.steps file out) v a → a.status ≡ Done 0 }
+        → IsSome v.files → HasFile v.files image (image_spelling r.plan.image)
+        → HasFile v.files journal (spelling r.journal)
+        → AnswerBy (replays.steps image journal) v a → a.status ≡ Done 0 }
 {}
 
 /// The law of recorded runs: over a told input, the journal that `record` keeps is that of the run whose status,

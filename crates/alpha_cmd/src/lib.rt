@@ -13,14 +13,14 @@
 //! - [`laws_of_answers`] says that words have one answer where what their command reads is told, and
 //!   some where files are told and are of bytes. [`laws_of_listed_files`] says that what a `dis` writes that is
 //!   done is a source of the image of its file.
-//! - [`laws_of_restarts`] says that accepted images can be restarted, and so that a run of the
+//! - [`laws_of_checked_runs`] says that accepted images can be restarted, and so that a run of the
 //!   imprecise machine of a file that `check` accepts has the answer of the sequential run, but for
 //!   the number of words that it draws, where files are told and its choices have words
 //!   (`specs/AlikeByAnswers.antt`). [`laws_of_told_runs`] says that this is, over a told input, the answer
 //!   of the sequential run of the image which the file spells (`specs/Alike.antt`). [`laws_of_records`] says
 //!   that a journal that `record` has kept of a run over a told input is never refused by `replay`, as
 //!   long as the image's file spells that image, and [`laws_of_recorded_runs`] that it is the journal of
-//!   the run whose answer was given (`specs/RecordedRun.antt`). [`laws_of_accepted_files`] says that a
+//!   the run whose answer was given (`specs/RecordedRun.antt`). [`laws_of_checkable_files`] says that a
 //!   file which spells an accepted image meets what those laws ask.
 //! - [`laws_of_unread_inputs`] says that a program which reads nothing in the steps that are asked for has
 //!   one answer over every source, told or not, where its file is told (`specs/ReadsNothing.antt`).
@@ -72,8 +72,8 @@ pub use devices::Devices;
 pub use entry::alpha_main;
 pub use image::{IMAGE_LIMIT, image_of};
 pub use laws::{
-    laws_of_accepted_files, laws_of_answers, laws_of_kept_modules, laws_of_listed_files,
-    laws_of_recorded_runs, laws_of_records, laws_of_restarts, laws_of_told_runs,
+    laws_of_answers, laws_of_checkable_files, laws_of_checked_runs, laws_of_kept_modules,
+    laws_of_listed_files, laws_of_recorded_runs, laws_of_records, laws_of_told_runs,
     laws_of_unread_inputs,
 };
 pub use link::MODULE_LIMIT;

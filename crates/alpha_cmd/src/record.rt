@@ -1,10 +1,10 @@
 //! `record FILE OUT`: a run of the image's program by the imprecise machine, whose journal is kept as a
 //! file.
 
-ghost use Rattle.std.specs.Prelude.{◌≡◌, ◌≢◌, ◌++◌, ◌∷◌, [], ℕ, List, Bool, true, Option, length};
+ghost use Rattle.std.specs.Prelude.{◌≡◌, ◌≢◌, ◌⊎◌, ◌++◌, ◌∷◌, [], ℕ, List, Bool, false, true, Option, length};
 ghost use Rattle.alpha_io.specs.Faults.{Faulted};
 ghost use Rattle.alpha_io.specs.Files.{HasFile, Refuses};
-ghost use Rattle.alpha_io.specs.History.{Kept};
+ghost use Rattle.alpha_io.specs.History.{Kept, Reply};
 ghost use Rattle.alpha_io.specs.ShelfChange.{shelf_change};
 ghost use Rattle.alpha_io.specs.SinkChange.{sink_change};
 ghost use Rattle.alpha_request.specs.Options.{origin_of};
@@ -20,7 +20,7 @@ ghost use Rattle.alpha_cmd.specs.CommandEffect.{CommandEffect};
 ghost use Rattle.alpha_cmd.specs.Ends.{status_in};
 ghost use Rattle.alpha_cmd.specs.Kept.{Serves};
 ghost use Rattle.alpha_cmd.specs.RecordRan.{DecidesRecord, ReadsAndKeeps};
-ghost use Rattle.alpha_cmd.specs.RunsAsked.{HasEnded, WhereEnded};
+ghost use Rattle.alpha_cmd.specs.RunsAsked.{EndsRecord, EndsWhereRecord, HasEnded, WhereEnded};
 
 use crate::Status;
 use crate::decision::Decision;
@@ -59,6 +59,8 @@ pub(crate) fn record<H: Shelf, S: Source, K: Sink, N: Sink>(
         (drawn S.Source devices.old.input devices.new.input)
         (sink_change K.Sink devices.old.out devices.new.out)
         (sink_change N.Sink devices.old.notes devices.new.notes))) }
+    ensures ends { EndsWhereRecord asked.entry.force (origin_of asked.entry.choices) asked.entry.file.now name.now
+        (status_in result) (shelf_change H.Shelf devices.old.shelf devices.new.shelf) }
     ensures keeps { (end : Option End) (lost : Option LostTrap) (n : ℕ)
         → status_in result ≡ imprecise_status end lost n
         → KeepsRun asked.entry.options (origin_of asked.entry.choices) asked.entry.force
@@ -91,6 +93,9 @@ fn record_from_start<H: Shelf, S: Source, K: Sink, N: Sink>(
         (drawn S.Source devices.old.input devices.new.input)
         (sink_change K.Sink devices.old.out devices.new.out)
         (sink_change N.Sink devices.old.notes devices.new.notes)) }
+    ensures ends { (force : Bool) → MayRun force (plan_in begun.old) → (replies : List Reply)
+        × (H.replies devices.new.shelf ≡ H.replies devices.old.shelf ++ replies)
+        × EndsRecord force name.now replies (status_in result) }
     ensures keeps { (force : Bool) → MayRun force (plan_in begun.old)
         → (end : Option End) (lost : Option LostTrap) (n : ℕ)
         → status_in result ≡ imprecise_status end lost n
@@ -120,6 +125,11 @@ fn keep_journal<H: Shelf>(
     ensures good { IsJournal journal.now }
     ensures stands { HasEnded result.status → (result ≡ decision)
         × (H.replies shelf.new ≡ H.replies shelf.old ++ Kept name.now (spelling journal.now) true ∷ []) }
+    ensures ends { ((result.status ≡ Status.NoMemory) × (H.replies shelf.new ≡ H.replies shelf.old))
+        ⊎ (((result ≡ decision)
+        × (H.replies shelf.new ≡ H.replies shelf.old ++ Kept name.now (spelling journal.now) true ∷ []))
+        ⊎ ((result.status ≡ Status.ShelfFault)
+        × (H.replies shelf.new ≡ H.replies shelf.old ++ Kept name.now (spelling journal.now) false ∷ []))) }
     ensures shelf { decision.status ≢ Status.ShelfFault
         → Serves (shelf_change H.Shelf shelf.old shelf.new)
         (result.status ≢ Status.ShelfFault) }

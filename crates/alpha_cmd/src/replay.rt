@@ -1,18 +1,21 @@
 //! `replay FILE JOURNAL`: whether a journal lists a run of an image.
 
-ghost use Rattle.std.specs.Prelude.{◌≡◌, ◌⊎◌, IfOk, IfErr, None};
-ghost use Rattle.alpha_io.specs.History.{IsReadWhole};
+ghost use Rattle.std.specs.Prelude.{◌≡◌, ◌≢◌, ◌⊎◌, ℕ, List, IfOk, IfErr, None};
+ghost use Rattle.alpha_io.specs.History.{IsReadInPart, IsReadWhole};
 ghost use Rattle.alpha_io.specs.ShelfChange.{shelf_change};
 ghost use Rattle.alpha_io.specs.SinkChange.{sink_change};
-ghost use Rattle.alpha_replay.specs.Journal.{IsJournal, spelling};
+ghost use Rattle.alpha_image.specs.Parts as images;
+ghost use Rattle.alpha_replay.specs.Journal.{IsJournal, Parts, spelling};
 ghost use Rattle.alpha_replay.specs.JournalFault.{first_fault};
+ghost use Rattle.alpha_replay.specs.Replay.{replayed};
 ghost use Rattle.alpha_cmd.specs.Outcome.{continues, stops};
 ghost use Rattle.alpha_cmd.specs.Commands.Replay as replays;
 ghost use Rattle.alpha_cmd.specs.Commands.Replay.{SpellsJournal, JournalOf, Plays, RunOf};
 ghost use Rattle.alpha_cmd.specs.CommandEffect.{CommandEffect};
-ghost use Rattle.alpha_cmd.specs.ReplayRan.{ReplaysFiles};
+ghost use Rattle.alpha_cmd.specs.Ends.{status_in};
+ghost use Rattle.alpha_cmd.specs.ReplayRan.{EndsWhereReplay, IsReplayRead, ReplaysFiles, status_replayed};
 ghost use Rattle.alpha_cmd.specs.RunsAsked.{WhereEnded};
-ghost use Rattle.alpha_cmd.specs.ShowsDone.{DecidesDone};
+ghost use Rattle.alpha_cmd.specs.ShowsDone.{DecidesDone, IsOrFails};
 ghost use Rattle.alpha_cmd.specs.Stage.{Computes, Stage, stop_status, stop_line};
 
 use crate::Status;
@@ -41,6 +44,8 @@ pub(crate) fn replay<H: Shelf, S: Source, K: Sink, N: Sink>(
         (λ r. DecidesDone (replays.run_line r.units r.reports) decision
         (sink_change K.Sink devices.old.out devices.new.out)
         (sink_change N.Sink devices.old.notes devices.new.notes))) }
+    ensures ends { EndsWhereReplay file.now journal.now (status_in result)
+        (shelf_change H.Shelf devices.old.shelf devices.new.shelf) }
     ensures does { CommandEffect H.Shelf S.Source K.Sink N.Sink (replays.form file.now journal.now) result
         devices.old devices.new }
 {
@@ -59,6 +64,9 @@ fn run_of<H: Shelf>(
 ) -> Result<Replayed, Stop>
     ensures read { IfOk result (λ replayed.
         ReplaysFiles (shelf_change H.Shelf shelf.old shelf.new) file.now journal.now (λ r. r ≡ replayed)) }
+    ensures whole { (image : images.Parts) (listed : Parts)
+        → IsReplayRead (H.replies shelf.old) (H.replies shelf.new) file.now journal.now image listed
+        → IfErr result (λ stop. IsOrFails (status_replayed (replayed image listed)) (stop_status stop)) }
     ensures stage { Stage (RunOf (H.files shelf.old) file.now journal.now) (λ replayed. replayed) result
         (shelf_change H.Shelf shelf.old shelf.new) }
 {
@@ -71,6 +79,10 @@ fn run_of<H: Shelf>(
 fn load_journal<H: Shelf>(alloc: Global, shelf: &mut H, name: &str) -> Result<Journal, Stop>
     ensures read { IfOk result (λ journal. IsJournal journal
         × IsReadWhole (H.replies shelf.old) (H.replies shelf.new) name.now (spelling journal)) }
+    ensures part { IfErr result (λ stop. (stop ≡ Stop.OfStatus Status.NoMemory)
+        ⊎ (IsReadInPart (H.replies shelf.old) (H.replies shelf.new) name.now
+        ⊎ ((bytes : List ℕ) × IsReadWhole (H.replies shelf.old) (H.replies shelf.new) name.now bytes
+        × (first_fault bytes ≢ None)))) }
     ensures stage { Stage (JournalOf (H.files shelf.old) name.now) (λ journal. journal) result
         (shelf_change H.Shelf shelf.old shelf.new) }
 {

@@ -1,3 +1,4 @@
+use Rattle.std.proofs.Common.{[], sym, append-nil}
 use Rattle.alpha_io.specs.SinkChange.{sink_change}
 use Rattle.alpha_seq.specs.Devices.{drawn as drawn_in}
 use Rattle.alpha_request.specs.Options.{origin_of}
@@ -63,5 +64,6 @@ returns-in-Ok-clause-ends g c = λ plan accepted read.
 
 pub returns-in-Err-clause-ends : goal.returns-in-Err-clause-ends
 returns-in-Err-clause-ends g c = λ plan accepted read.
+    let new = g.H.Shelf.replies c.prepare.new.shelf in
     SaysStop-memory_FailsOnTheWay _ c.in-Err.stop c.of_stop.result c.of_stop.ensures
-    (c.in-Err.ensures.whole plan accepted read)
+    (c.in-Err.ensures.first plan new [] accepted read (sym (append-nil new)))

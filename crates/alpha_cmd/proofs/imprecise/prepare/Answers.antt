@@ -57,23 +57,23 @@ returns-clause-read g c =
     (λ begun is. subst (λ (p : Plan). IsPlanRead old new (origin_of a.choices) a.file.now p) (sym is)
     c.in_ok-plan.ensures.read) c.begin.ensures.ok
 
-pub returns-in_err-plan-clause-whole : goal.returns-in_err-plan-clause-whole
-returns-in_err-plan-clause-whole g c = λ plan accepted read.
+pub returns-in_err-plan-clause-first : goal.returns-in_err-plan-clause-first
+returns-in_err-plan-clause-first g c = λ plan middle rest accepted read behind.
     let p = err_from_is_err_and c.from_residual.result c.from_residual.ensures.1 in
-    rw (p.1, p.2) (c.in_err-plan.ensures.whole plan read)
+    rw (p.1, p.2) (c.in_err-plan.ensures.first plan middle rest read behind)
 
-pub returns-in_err-require_pass-clause-whole : goal.returns-in_err-require_pass-clause-whole
-returns-in_err-require_pass-clause-whole g c = λ plan accepted read.
+pub returns-in_err-require_pass-clause-first : goal.returns-in_err-require_pass-clause-first
+returns-in_err-require_pass-clause-first g c = λ plan middle rest accepted read behind.
     let a = c.args.asked.now in
     let old = g.H.Shelf.replies c.args.shelf.now in
     let new = g.H.Shelf.replies c.read_plan.new.shelf in
     let found = plan_by c.in_ok-plan.plan.image (ahead_in c.in_ok-plan.plan.chooser) in
     absurd (c.in_err-require_pass.ensures.whole (λ judges. subst (λ (p : Parts). IsAccepted p.words)
-    (same_image old new (origin_of a.choices) a.file.now found plan c.in_ok-plan.ensures.read read)
+    (same_image old new middle rest (origin_of a.choices) a.file.now found plan c.in_ok-plan.ensures.read read behind)
     (accepted judges)))
 
-pub returns-clause-whole : goal.returns-clause-whole
-returns-clause-whole g c = λ plan accepted read. c.begin.ensures.refused
+pub returns-clause-first : goal.returns-clause-first
+returns-clause-first g c = λ plan middle rest accepted read behind. c.begin.ensures.refused
 
 pub returns-in_err-require_pass-clause-stage : goal.returns-in_err-require_pass-clause-stage
 returns-in_err-require_pass-clause-stage g c =

@@ -1,5 +1,6 @@
-use Rattle.std.proofs.Common.{◌∙◌, None, sym, ap}
+use Rattle.std.proofs.Common.{◌∙◌, List, None, sym, ap, subst, inl}
 use Rattle.alpha_io.specs.Faults.{Faulted}
+use Rattle.alpha_io.specs.History.{Reply}
 use Rattle.alpha_io.specs.SinkChange.{sink_change}
 use Rattle.alpha_seq.specs.Devices.{drawn as drawn_in}
 use Rattle.alpha_request.specs.Options.{origin_of}
@@ -7,13 +8,17 @@ use Rattle.alpha_cmd.specs.Answer.{Answer}
 use Rattle.alpha_cmd.specs.AnswerBy.{told}
 use Rattle.alpha_cmd.specs.Commands.Imprecise.{Planned, plan_in}
 use Rattle.alpha_cmd.specs.Commands.Record.{Records, kind}
+use Rattle.alpha_cmd.specs.Ends.{status_in}
 use Rattle.alpha_cmd.specs.Form.{needs_files_and_input}
 use Rattle.alpha_cmd.specs.RecordRan.{DecidesRecord}
+use Rattle.alpha_cmd.specs.RunsAsked.{EndsRecord}
 use Rattle.alpha_cmd.proofs.EffectsAfterRead.{does_after, does_stop}
 use Rattle.alpha_cmd.proofs.StageEffects.{shelf_call}
 use Rattle.alpha_cmd.proofs.JournalStatus.{StopsBy-not_imprecise_status}
 use Rattle.alpha_cmd.proofs.Commands.Imprecise.{planned_good, planned_plain}
 use Rattle.alpha_cmd.proofs.EndStatuses.{HasEnded-not_stopped}
+use Rattle.alpha_cmd.proofs.EndsWhere.{memory_said}
+use Rattle.alpha_cmd.proofs.PlansRead.{same_rest}
 use Rattle.alpha_cmd.proofs.RunsOnReplies.{IfOk-ReadsAndKeeps}
 use Rattle.alpha_cmd.proofs.record.record.Goals as goal
 
@@ -42,6 +47,13 @@ returns-in-Ok g c =
           (drawn_in g.S.Source old.input new.input) (sink_change g.K.Sink old.out new.out)
           (sink_change g.N.Sink old.notes new.notes))
           c.in-Ok.ensures.read is.ok (c.record_from_start.ensures.ran a.force may ends);
+      ends = λ read_plan middle rest accepted read behind.
+          let old = g.H.Shelf.replies c.args.devices.now.shelf in
+          let begun = g.H.Shelf.replies c.prepare.new.shelf in
+          let (replies, then, ends) = c.record_from_start.ensures.ends a.force may in
+          subst (λ (l : List Reply). EndsRecord a.force name l (status_in c.record_from_start.result))
+          (same_rest old begun middle replies rest (origin_of a.choices) a.file.now plan read_plan c.in-Ok.ensures.read
+          read (sym then ∙ behind)) ends;
       keeps = λ end lost n is_end. (plan, is.ok, c.record_from_start.ensures.keeps a.force may end lost n is_end);
     }
 
@@ -60,6 +72,9 @@ returns-in-Err g c =
       ran = λ ends. absurd (HasEnded-not_stopped (Planned drawn a.force a.file.now did.shelf.old) _
           (planned_plain drawn a.force a.file.now did.shelf.old) c.in-Err.stop c.of_stop.result c.of_stop.ensures
           c.in-Err.ensures.stage.refused ends);
+      ends = λ plan middle rest accepted read behind.
+          inl (inl (memory_said c.in-Err.stop c.of_stop.result c.of_stop.ensures
+          (c.in-Err.ensures.first plan middle rest accepted read behind)));
       keeps = λ end lost n is.
           absurd (StopsBy-not_imprecise_status a.options drawn a.force a.file.now name (told did)
           (Faulted did.shelf.before did.shelf.now) end lost n c.in-Err.stop

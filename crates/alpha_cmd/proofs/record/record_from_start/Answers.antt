@@ -1,4 +1,4 @@
-use Rattle.std.proofs.Common.{◌++◌, ◌∷◌, ◌∙◌, List, [], true, length, sym, ap, subst}
+use Rattle.std.proofs.Common.{◌++◌, ◌∷◌, ◌∙◌, List, [], true, length, sym, ap, subst, append-nil}
 use Rattle.alpha_io.specs.Faults.{Faulted}
 use Rattle.alpha_io.specs.Files.{Refuses}
 use Rattle.alpha_io.specs.History.{Kept, Reply}
@@ -13,6 +13,7 @@ use Rattle.alpha_cmd.specs.RecordRan.{DecidesRecord}
 use Rattle.alpha_cmd.proofs.Commands.Record.{has_of}
 use Rattle.alpha_cmd.proofs.JournalKept.{kept_does}
 use Rattle.alpha_cmd.proofs.JournalStatus.{kept_keeps, IsOver-not_imprecise_status, IsOver-no_imprecise_end}
+use Rattle.alpha_cmd.proofs.JournalStatus.{RunsOn-end, IsOver-EndsRecord, kept_EndsRecord}
 use Rattle.alpha_cmd.proofs.record.record_from_start.Goals as goal
 
 pub returns-in-Made-clause-does : goal.returns-in-Made-clause-does
@@ -73,3 +74,24 @@ returns-in-Made-clause-ran g c = λ force may ends is.
 
 pub returns-in-Over-clause-ran : goal.returns-in-Over-clause-ran
 returns-in-Over-clause-ran g c = λ force may ends. IsOver-no_imprecise_end c.in-Over.result c.in-Over.ensures.status _
+
+pub returns-in-Made-clause-ends : goal.returns-in-Made-clause-ends
+returns-in-Made-clause-ends g c = λ force may.
+    let old = c.args.devices.now in
+    let middle = c.run_with_journal.new.devices in
+    let p = c.in-Made.journal in
+    let d = c.in-Made.decision in
+    kept_EndsRecord (g.H.Shelf.replies old.shelf) (g.H.Shelf.replies middle.shelf)
+    (g.H.Shelf.replies c.keep_journal.new.shelf) force c.args.name.now p d c.keep_journal.result
+    c.keep_journal.ensures.good (ap g.H.Shelf.replies c.run_with_journal.ensures.shelf)
+    (RunsOn-end c.args.options force (g.S.Source.left old.input) (plan_in c.args.begun.now) p d
+    (g.S.Source.left middle.input) (sink_change g.K.Sink old.out middle.out)
+    (sink_change g.N.Sink old.notes middle.notes) (c.in-Made.ensures.made force may)) c.keep_journal.ensures.ends
+
+pub returns-in-Over-clause-ends : goal.returns-in-Over-clause-ends
+returns-in-Over-clause-ends g c = λ force may. (
+  [],
+  ap g.H.Shelf.replies c.run_with_journal.ensures.shelf
+      ∙ sym (append-nil (g.H.Shelf.replies c.args.devices.now.shelf)),
+  IsOver-EndsRecord force c.args.name.now (status_in c.in-Over.result) c.in-Over.ensures.status,
+)

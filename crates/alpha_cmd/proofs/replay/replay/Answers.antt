@@ -1,4 +1,4 @@
-use Rattle.std.proofs.Common.{◌∙◌, [], None, refl, sym, ap}
+use Rattle.std.proofs.Common.{◌∙◌, [], None, refl, sym, ap, subst, inl}
 use Rattle.alpha_io.proofs.Sinks.{Puts-none}
 use Rattle.alpha_replay.specs.declared.replaying.Replayed.{Replayed}
 use Rattle.alpha_cmd.specs.Answer.{Answer}
@@ -6,9 +6,14 @@ use Rattle.alpha_cmd.specs.AnswerBy.{world}
 use Rattle.alpha_cmd.specs.Commands.Replay.{RunOf, shown, form, kind, run_line}
 use Rattle.alpha_cmd.specs.Form.{needs_files}
 use Rattle.alpha_cmd.specs.Outcome.{Gives, continues}
+use Rattle.alpha_cmd.specs.ReplayRan.{status_replayed}
+use Rattle.alpha_cmd.specs.ShowsDone.{IsOrFails}
+use Rattle.alpha_cmd.specs.declared.status.Status.{Status}
+use Rattle.alpha_replay.specs.Replay.{replayed}
 use Rattle.alpha_cmd.proofs.EffectsAfterRead.{does_stop}
 use Rattle.alpha_cmd.proofs.Commands.Replay.{run_plain}
 use Rattle.alpha_cmd.proofs.EndStatuses.{HasEnded-not_stopped}
+use Rattle.alpha_cmd.proofs.ReplaysRead.{same_replay}
 use Rattle.alpha_cmd.proofs.StageEffects.{does_answer}
 use Rattle.alpha_cmd.proofs.replay.replay.Goals as goal
 
@@ -68,3 +73,23 @@ returns-in-Err-clause-ran g c = λ ends.
     absurd (HasEnded-not_stopped (RunOf w.files c.args.file.now c.args.journal.now) _
     (run_plain c.args.file.now c.args.journal.now w.files) c.in-Err.stop c.of_stop.result c.of_stop.ensures
     c.in-Err.ensures.stage.refused ends)
+
+pub returns-in-Ok-clause-ends : goal.returns-in-Ok-clause-ends
+returns-in-Ok-clause-ends g c = λ image listed read.
+    let h = c.in-Ok.ensures.read in
+    inl
+    (ap (λ (a : Answer). a.status) (c.of_replay.ensures None)
+    ∙ ap status_replayed (sym h.replays
+    ∙ same_replay (g.H.Shelf.replies c.args.devices.now.shelf) (g.H.Shelf.replies c.run_of.new.shelf) c.args.file.now
+    c.args.journal.now h.image image h.listed listed (record {
+      middle = h.middle;
+      good = h.good;
+      read = h.read;
+      is_journal = h.is_journal;
+      read_journal = h.read_journal;
+    }) read))
+
+pub returns-in-Err-clause-ends : goal.returns-in-Err-clause-ends
+returns-in-Err-clause-ends g c = λ image listed read.
+    subst (λ (status : Status). IsOrFails (status_replayed (replayed image listed)) status)
+    (sym (ap (λ (a : Answer). a.status) (c.of_stop.ensures None))) (c.in-Err.ensures.whole image listed read)

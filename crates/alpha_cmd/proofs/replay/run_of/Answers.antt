@@ -4,6 +4,9 @@ use Rattle.alpha_cmd.specs.Commands.Replay.{JournalOf, Plays}
 use Rattle.alpha_cmd.specs.Image.{ImageOf}
 use Rattle.alpha_restart.proofs.Agreement.{IsAccepted-IsRestartable}
 use Rattle.alpha_replay.proofs.ItemEffects.{replayed-IsRun, replayed-IsSequential}
+use Rattle.alpha_replay.specs.Journal.{spelling}
+use Rattle.alpha_cmd.proofs.PlansRead.{IsReadWhole-behind}
+use Rattle.alpha_cmd.proofs.ReplaysRead.{same_replay, untaken_fails, memory_fails, IfErr-played}
 use Rattle.alpha_cmd.proofs.StageLaws.{IfOk-more}
 use Rattle.alpha_cmd.proofs.EffectsAfterRead.{reads_both, second_stops}
 use Rattle.alpha_cmd.proofs.Commands.Replay.{journal_after, played_by}
@@ -53,3 +56,35 @@ returns-clause-read g c =
           replayed-IsSequential image p r replays (IsAccepted-IsRestartable image c.in_ok-image.ensures.read.0 safe);
       has = refl;
     }) c.play.ensures.ok
+
+pub returns-in_err-image-clause-whole : goal.returns-in_err-image-clause-whole
+returns-in_err-image-clause-whole g c = λ image listed read.
+    let p = err_from_is_err_and c.from_residual.result c.from_residual.ensures.1 in
+    let (rest, behind) =
+    IsReadWhole-behind read.middle (g.H.Shelf.replies c.load.new.shelf) c.args.journal.now (spelling listed)
+    read.read_journal in
+    rw (p.1, p.2)
+    (memory_fails _ c.in_err-image.field-0.0
+    (c.in_err-image.ensures.first image read.middle rest read.good read.read behind))
+
+pub returns-in_err-journal-clause-whole : goal.returns-in_err-journal-clause-whole
+returns-in_err-journal-clause-whole g c = λ image listed read.
+    let p = err_from_is_err_and c.from_residual-in_err-journal.result c.from_residual-in_err-journal.ensures.1 in
+    rw (p.1, p.2)
+    (untaken_fails (g.H.Shelf.replies c.args.shelf.now) (g.H.Shelf.replies c.load.new.shelf)
+    (g.H.Shelf.replies c.load_journal.new.shelf) c.args.file.now c.args.journal.now c.in_ok-image.image image listed
+    c.in_err-journal.field-0.0 c.in_ok-image.ensures.read.1 read c.in_err-journal.ensures.part)
+
+pub returns-clause-whole : goal.returns-clause-whole
+returns-clause-whole g c = λ image listed read.
+    let found = c.in_ok-image.image in
+    let journal = c.in_ok-journal.journal in
+    IfErr-played found journal c.play.result _
+    (same_replay (g.H.Shelf.replies c.args.shelf.now) (g.H.Shelf.replies c.load_journal.new.shelf) c.args.file.now
+    c.args.journal.now found image journal listed (record {
+      middle = g.H.Shelf.replies c.load.new.shelf;
+      good = c.in_ok-image.ensures.read.0;
+      read = c.in_ok-image.ensures.read.1;
+      is_journal = c.in_ok-journal.ensures.read.0;
+      read_journal = c.in_ok-journal.ensures.read.1;
+    }) read) c.play.ensures.refused

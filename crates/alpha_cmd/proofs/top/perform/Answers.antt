@@ -75,10 +75,10 @@ pub returns-in-Link-clause-ends : goal.returns-in-Link-clause-ends
 returns-in-Link-clause-ends g c = rw c.in-Link.is tt
 
 pub returns-in-Replay-clause-ends : goal.returns-in-Replay-clause-ends
-returns-in-Replay-clause-ends g c = rw c.in-Replay.is tt
+returns-in-Replay-clause-ends g c = rw c.in-Replay.is c.replay.ensures.ends
 
 pub returns-in-Record-clause-ends : goal.returns-in-Record-clause-ends
-returns-in-Record-clause-ends g c = rw c.in-Record.is tt
+returns-in-Record-clause-ends g c = rw c.in-Record.is c.record.ensures.ends
 
 pub returns-in-Trial-clause-ends : goal.returns-in-Trial-clause-ends
 returns-in-Trial-clause-ends g c = rw c.in-Trial.is tt

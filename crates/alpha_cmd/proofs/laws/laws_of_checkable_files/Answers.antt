@@ -1,7 +1,7 @@
 use Rattle.alpha_request.specs.Origin.{seed}
 use Rattle.alpha_cmd.proofs.AcceptedFiles.{spelling-ImageOf, accepted-IsChecked, seed-HasWords, listed-HasWords}
 use Rattle.alpha_cmd.proofs.ImpreciseAnswers.{AnswerBy-imprecise_undrawn}
-use Rattle.alpha_cmd.proofs.laws.laws_of_accepted_files.Goals as goal
+use Rattle.alpha_cmd.proofs.laws.laws_of_checkable_files.Goals as goal
 
 pub returns : goal.returns
 returns c = record {

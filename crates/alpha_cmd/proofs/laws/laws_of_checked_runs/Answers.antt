@@ -1,6 +1,6 @@
 use Rattle.alpha_restart.proofs.Agreement.{IsAccepted-IsRestartable}
 use Rattle.alpha_cmd.proofs.ImpreciseAnswers.{AnswerBy-imprecise_as_run, AnswerBy-imprecise_undrawn}
-use Rattle.alpha_cmd.proofs.laws.laws_of_restarts.Goals as goal
+use Rattle.alpha_cmd.proofs.laws.laws_of_checked_runs.Goals as goal
 
 pub returns : goal.returns
 returns c = record {
