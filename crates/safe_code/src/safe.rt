@@ -1,6 +1,6 @@
 ghost use Rattle.std.specs.Prelude.{◌≡◌, IfErr, IfOk};
 ghost use Rattle.alpha_shadow.specs.Broken.{IsAccepted};
-ghost use Rattle.alpha_shadow.specs.Words.{Refuses};
+ghost use Rattle.alpha_shadow.specs.Words.{AreKnown, Refuses};
 
 use alpha_shadow::{Refusal, judge_words};
 
@@ -8,6 +8,7 @@ use alpha_shadow::{Refusal, judge_words};
 #[derive(Drop)]
 pub struct SafeCode<'a> {
     words: &'a [u32],
+    ghost known: { AreKnown words.now },
     ghost safe: { IsAccepted words.now },
 }
 
@@ -28,6 +29,7 @@ impl<'a> SafeCode<'a> {
     /// Its words.
     pub fn words(&self) -> &[u32]
         ensures same { result.now ≡ self.now.words.now }
+        ensures known { AreKnown result.now }
         ensures safe { IsAccepted result.now }
     {
         self.words
