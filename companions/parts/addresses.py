@@ -4,15 +4,12 @@ import struct
 from bisect import bisect_right
 from collections import Counter, namedtuple
 
-from . import gas, image, instructions, known, steps, table
+from . import gas, image, steps, table
 
 # A function of a map, by places: its first, one past its last, its name.
 Function = namedtuple("Function", "start end name")
 # How far behind a word its pair, or before it its base, is looked for.
 NEAR = 16
-# The routines that divide, as the compiler calls them of other files, and what they spoil.
-DIVIDING = {f"__{name}" for name in instructions.DIVISIONS}
-DIVISION_SPOILS = steps.bits(steps.BY_DIVISION, 24, 25, steps.PV, steps.AT)
 SIZES = {".byte": 1, ".word": 2, ".long": 4, ".quad": 8}
 
 
@@ -23,8 +20,8 @@ class Linked:
         self.steps, self.after, self.base, self.segments = found, after, code_base, segments
         self.functions = sorted(functions)
         self.starts = [function.start for function in self.functions]
-        # The places to which branches, calls and names lead.
-        self.entered = set()
+        # The places where functions begin, and to which calls come back.
+        self.begins = set()
 
     def place(self, address):
         place, rest = divmod(address - self.base, 4)
@@ -33,26 +30,27 @@ class Linked:
     def address(self, place):
         return self.base + 4 * place
 
-    def taken(self, pointers):
+    def taken(self, pointers, code=None):
         """The places of which an address stands in the data, or is made by `ldah` and `lda`."""
         found = set()
         for _, content in self.segments:
             whole = content[:len(content) // 8 * 8]
             found.update(self.place(number) for number in set(struct.unpack(f"<{len(whole) // 8}Q", whole)))
-        found.update(self.place(number) for number in self.made(pointers))
+        found.update(self.place(number) for number in self.made(pointers, code))
         return found - {None}
 
-    def made(self, pointers):
-        """The numbers that pairs of `ldah` and `lda` make, by themselves or from the global pointer."""
+    def made(self, pointers, code):
+        """The numbers that pairs of `ldah` and `lda` make, by themselves or from the global pointer, in what is reached
+        where the code is given."""
         for place, step in enumerate(self.steps):
-            if step.word is None:
+            if step.word is None or code is not None and place not in code.reached:
                 continue
             if step.insn.name == "lda" and steps.base_of(step) == steps.GP:
                 yield from (pointer + steps.displacement_of(step) for pointer in pointers)
             if step.insn.name != "ldah" or steps.base_of(step) not in (31, steps.GP):
                 continue
             high = steps.displacement_of(step) << 16
-            for low in self.lows(place, step.insn.sets):
+            for low in self.lows(place, step.insn.sets) if code is None else self.lows_on_ways(place, code):
                 for pointer in pointers if steps.base_of(step) == steps.GP else [0]:
                     yield pointer + high + low
 
@@ -62,58 +60,78 @@ class Linked:
             if other.word is not None and other.insn.name == "lda" and other.insn.uses == half:
                 yield steps.displacement_of(other)
 
+    def lows_on_ways(self, place, code):
+        """The displacements of the `lda` that go on from the register that a word sets, on any way through the code,
+        calls being passed, on which nothing else sets it."""
+        half, seen, left = self.steps[place].insn.sets, set(), list(code.next[place])
+        while left:
+            other = left.pop()
+            if other is None or other in seen:
+                continue
+            seen.add(other)
+            step = self.steps[other]
+            if step.insn.name == "lda" and step.word is not None and step.insn.uses == half:
+                yield steps.displacement_of(step)
+            if not step.insn.sets & half:
+                left += code.next[other]
+
     def pointers(self, begins):
         """The values of the global pointer that its pairs of words make: from the address where a function begins, from
         that behind a call, or from their own. That which most have is the first."""
-        counts = Counter()
+        counts, self.begins = Counter(), begins
         for place, step in enumerate(self.steps):
             if (step.word is None or step.insn.name != "ldah" or step.insn.sets != table.bit(steps.GP)
                 or steps.base_of(step) in (31, steps.GP)):
                 continue
-            bases = {place} | {at for at in range(max(0, place - NEAR), place) if at in begins}
             for low in self.lows(place, step.insn.sets):
-                for base in bases:
+                for base in self.bases(place, begins):
                     counts[self.address(base) + (steps.displacement_of(step) << 16) + low] += 1
         return [pointer for pointer, _ in counts.most_common(1)]
 
-    def tables(self, pointers, states):
-        """The places to which each jump by a table may go: by the table whose address the states before its words tell,
-        else by any whose address is made in its function."""
-        found = {}
-        for place, step in enumerate(self.steps):
-            if (step.insn.name != "jmp" or place not in states or not pointers
-                or not is_by_table(self.steps, place, self.after, self.entered)):
+    @staticmethod
+    def bases(place, begins):
+        """The places whose address a word may have in the register from which it makes the global pointer."""
+        return {place} | {at for at in range(max(0, place - NEAR), place) if at in begins}
+
+    def is_only_pointer(self, pointers, code):
+        """Whether each reached word that sets the global pointer gives it back, or is one of a pair that makes it."""
+        pairs = {}
+        for place in sorted(code.reached):
+            step = self.steps[place]
+            if step.spoils & table.bit(steps.GP) == 0:
                 continue
-            offset = table_of(self.steps, place, self.after, self.entered, states)
-            offsets = [offset] if offset is not None else self.offsets_near(place, states)
-            targets = {other for offset in offsets for other in self.targets(place, pointers[0], pointers[0] + offset)}
-            if targets:
-                found[place] = sorted(targets)
-        return found
+            if step.insn.name == "ldah" and steps.base_of(step) not in (31, steps.GP):
+                pairs[place] = self.bases(place, self.begins)
+            elif step.insn.name == "lda" and steps.base_of(step) == steps.GP:
+                pair = next((other for other in range(place - 1, max(-1, place - NEAR), -1)
+                             if self.steps[other].spoils & table.bit(steps.GP)), None)
+                high = steps.displacement_of(self.steps[pair]) << 16 if pair in pairs else 0
+                if not any(self.address(base) + high + steps.displacement_of(step) in pointers
+                           for base in pairs.get(pair, ())):
+                    return False
+            elif step.insn.name != "ldq" or code.returns().states[place].get(steps.base_of(step), ("",))[0] != "stack":
+                return False
+        return True
 
-    def offsets_near(self, place, states):
-        """How far from the global pointer what the function of a place makes by `lda` lies, where a table of two may
-        stand."""
-        function = self.function_of(place)
-        for other in range(function.start, function.end) if function else ():
-            step = self.steps[other]
-            value = known.value_of(step, states.get(other, {})) if step.insn.name == "lda" else None
-            if value is not None and value[0] == "pointer" and value[1] is not None:
-                yield value[1]
+    def reader(self, pointers, code):
+        """What says of a table, so far from the global pointer, and of a number of its entries, which places they have,
+        None where one of them has none in the function of the jump."""
+        is_only = len(pointers) == 1 and self.is_only_pointer(pointers, code)
 
-    def targets(self, place, pointer, address):
-        """The places that a table holds as distances from the global pointer, up to what is none in the same
-        function."""
-        found = set()
+        def read(place, where, count):
+            if where[0] != "pointer" or not is_only:
+                return None
+            found = [self.place(pointers[0] + number) for number in self.numbers(pointers[0] + where[1], count)]
+            return found if len(found) == count and all(
+                other is not None and self.are_of_one(place, other) for other in found) else None
+        return read
+
+    def numbers(self, address, count):
+        """Numbers of 4 bytes that stand in the data from an address on."""
         for base, content in self.segments:
-            while base <= address and address + 4 <= base + len(content):
-                number, = struct.unpack_from("<i", content, address - base)
-                other = self.place(pointer + number)
-                if other is None or not self.are_of_one(place, other):
-                    break
-                found.add(other)
-                address += 4
-        return found if len(found) > 1 else set()
+            if base <= address and address + 4 * count <= base + len(content):
+                return struct.unpack_from(f"<{count}i", content, address - base)
+        return ()
 
     def function_of(self, place):
         at = bisect_right(self.starts, place) - 1
@@ -122,54 +140,6 @@ class Linked:
     def are_of_one(self, place, other):
         one, two = self.function_of(place), self.function_of(other)
         return one is None or two is not None and one.name.split(".cold")[0] == two.name.split(".cold")[0]
-
-
-def is_by_table(found, place, after, entered):
-    """Whether a jump goes by a table of distances from the global pointer: `ldl`, `addq` with it, `jmp`. Between may
-    stand what doesn't change these registers, and `addl $31` of what was loaded, which changes nothing, but nothing to
-    which others go, of which `entered` has the places."""
-    return load_of_table(found, place, after, entered) is not None
-
-
-def load_of_table(found, place, after, entered):
-    """The place of the `ldl` of a jump by a table, or None."""
-    if found[place].word is None:
-        return None
-    by, wanted = steps.base_of(found[place]), "addq"
-    for at in setters(found, place, after, entered, lambda: by):
-        step = found[at]
-        first, second, is_literal = step.word >> 21 & 31, steps.base_of(step), step.word & steps.LITERAL
-        if wanted == "ldl" and step.insn.name == "ldl":
-            return at
-        if wanted == "ldl" and step.insn.name == "addl" and first == 31 and not is_literal:
-            by = second
-        elif (wanted == "addq" and step.insn.name == "addq" and not is_literal and first != second
-              and steps.GP in (first, second)):
-            by, wanted = first if second == steps.GP else second, "ldl"
-        else:
-            return None
-    return None
-
-
-def setters(found, place, after, entered, wanted):
-    """The places before one, without a branch or a way in between, that set the register that is wanted at the time."""
-    for at in range(place - 1, max(-1, place - NEAR), -1):
-        step = found[at]
-        if at + 1 in entered or after[at] != at + 1 or step.word is None:
-            return
-        if step.insn.kind == table.TURN and not (step.label in DIVIDING and not DIVISION_SPOILS & table.bit(wanted())):
-            return
-        if step.insn.sets & table.bit(wanted()):
-            yield at
-
-
-def table_of(found, place, after, entered, states):
-    """How far the table of a jump lies from the global pointer, or None."""
-    at = load_of_table(found, place, after, entered)
-    if at is None:
-        return None
-    value = states.get(at, {}).get(steps.base_of(found[at]), ("", 0))
-    return value[1] + steps.displacement_of(found[at]) if value[0] == "table" else None
 
 
 def data_of(statements):
@@ -194,3 +164,18 @@ def data_of(statements):
         elif inside and name == ".ascii":
             segments[-1][1].extend(gas.string_bytes(operands[0]) or b"")
     return base, segments
+
+
+def tables_of(statements):
+    """The names that stand as distances from the global pointer behind each label, up to what is none."""
+    found, open_ = {}, []
+    for statement in statements:
+        if statement.name == ".gprel32":
+            open_ += [found.setdefault(label, []) for label in statement.labels]
+            for names in open_:
+                names += statement.operands
+            continue
+        if statement.name:
+            open_ = []
+        open_ += [found.setdefault(label, []) for label in statement.labels]
+    return found

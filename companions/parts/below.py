@@ -168,7 +168,8 @@ class Below:
         behind = self.states.get(self.code.after[place], {})
         return steps.is_call(step) and behind.get(steps.SP) != state.get(steps.SP)
 
-    def lets_write(self, step, state):
+    @staticmethod
+    def lets_write(step, state):
         """Whether others may write into the function's part of the stack from a word on: where an address of it is
         given away or reckoned from, or where $30 isn't known."""
         top = state.get(steps.SP, ("", None))

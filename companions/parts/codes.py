@@ -2,7 +2,7 @@
 import re
 from bisect import bisect_right
 
-from . import addresses, files, flow, gas, places, steps, table
+from . import addresses, files, flow, gas, jumps, places, steps, table
 
 SECTIONS = {".text": ".text", ".code": ".text", ".data": ".data", ".bss": ".bss", ".rdata": ".rodata",
             ".rodata": ".rodata",
@@ -32,7 +32,7 @@ class Text:
         self.names, self.globals, self.taken = [], set(), set()
         self.after, self.open, self.sections, self.by_line = [], {}, [], {}
         # What is assigned to names, and what stands in tables of distances from the global pointer.
-        self.assigned, self.distances = {}, set()
+        self.assigned, self.distances, self.tables_of_distances = {}, set(), addresses.tables_of(statements)
         self.is_whole = any(statement.name == ".entry" for statement in statements)
         self.is_listing = self.is_whole and any(statement.name == ".codebase" for statement in statements)
         self.base, self.segments = addresses.data_of(statements)
@@ -128,10 +128,10 @@ class Text:
             self.names += operands[:1]
         elif name in ASSIGNMENTS and len(operands) == 2:
             self.assigned.setdefault(*operands)
-        elif name.startswith(".") and not name.startswith(SILENT) or name in (".entry", ".gprel32"):
+        elif name == ".gprel32":
+            self.distances.update(found for text in operands for found in NAMES.findall(text))
+        elif name.startswith(".") and not name.startswith(SILENT) or name == ".entry":
             self.taken.update(found for text in operands for found in NAMES.findall(text))
-        if name == ".gprel32":
-            self.distances.update(operands)
         if name == ".entry":
             self.names += operands
 
@@ -190,7 +190,8 @@ class Text:
         """The code of a text for GNU as: whatever has a global name may be called from elsewhere."""
         here, functions = self.labels, self.functions()
         starts = {function.start for function in functions if ".cold" not in function.name}
-        taken = self.taken_places()
+        named, used = self.tables_of_distances, {}
+        taken = self.taken_places() | self.distant() & starts | self.distant() - self.distant(named)
         called = {targets[place] for place, step in enumerate(found) if steps.is_call(step)}
         outside = {here[name] for name in self.globals if name in here} | taken & starts | starts - called
         if not functions:
@@ -198,14 +199,38 @@ class Text:
                      | ({0} if found else set()))
             outside |= every - called
         linked = addresses.Linked(found, self.after, 0, [], functions)
-        entered = {target for target in targets if target is not None} | starts | taken
-        # A table may lead to other functions only where it names more than labels in the midst of one.
-        is_plain = (all(name in here and here[name] not in starts for name in self.distances)
-                    and not addresses.DIVIDING & set(here))
-        tables = {place: [other for other in sorted(taken - starts) if linked.are_of_one(place, other)]
-                  for place, step in enumerate(found)
-                  if is_plain and step.insn.name == "jmp" and addresses.is_by_table(found, place, self.after, entered)}
-        return flow.Code(found, targets, starts | taken | outside, starts, outside, tables, self.after, taken)
+
+        def read(place, where, count):
+            used[place] = where[1]
+            names = named.get(where[1], [])[:count] if where[0] == "symbol" else []
+            places = [here.get(name) for name in names]
+            return places if len(places) == count and all(
+                other is not None and other not in starts and linked.are_of_one(place, other) for other in places
+            ) else None
+
+        def reader(code):
+            return read if keeps_pointer(code) else lambda *_: None
+
+        def followed(taken, tables):
+            return with_tables(lambda tables: flow.Code(found, targets, starts | taken | outside, starts, outside,
+                                                        tables, self.after, taken), reader, tables)
+        # What stands in a table that is named, and by which no jump is shown to go, may be gone to by anybody.
+        tables = {}
+        for _ in range(MOST_ROUNDS):
+            code = followed(taken, tables)
+            tables, shown = code.tables, {used[place] for place in code.tables}
+            by_words = {name for place in code.reached for name in NAMES.findall(found[place].symbol or "")}
+            more = self.distant((by_words | self.taken) & set(named) - shown) - taken
+            if not more:
+                return code
+            taken = taken | more
+        return followed(taken | self.distant(named), {})
+
+    def distant(self, labels=None):
+        """The places in the tables of distances of some labels, or in all."""
+        names = self.distances if labels is None else {
+            name for label in labels for name in self.tables_of_distances.get(label, [])}
+        return {self.labels[name] for name in names if name in self.labels}
 
     def whole(self, found, targets):
         """The code of a source for `asm`, a listing among them."""
@@ -214,9 +239,22 @@ class Text:
                                         if is_function and size]
         entries = {here[name] for name in self.names if name in here}
         entries |= {(int(name, 0) - self.base) // 4 for name in self.names if name.isalnum() and name[0].isdigit()}
-        taken = self.taken_places()
+        taken = self.taken_places() | self.distant()
         linked = addresses.Linked(found, self.after, self.base, self.segments, functions)
         return whole_program(linked, targets, entries, taken, self.symbols)
+
+
+def keeps_pointer(code):
+    """Whether each reached word of a text that sets the global pointer makes it by the linker's words, or takes it from
+    the stack."""
+    for place in code.reached:
+        step = code.steps[place]
+        if step.word is None or not step.insn.sets & steps.bits(steps.GP) or (step.symbol or "").endswith("!gpdisp"):
+            continue
+        base = code.returns().states.get(place, {}).get(steps.base_of(step), ("",))
+        if step.insn.name != "ldq" or base[0] != "stack":
+            return False
+    return True
 
 
 def program(linked, targets, entries, taken, symbols):
@@ -226,21 +264,32 @@ def program(linked, targets, entries, taken, symbols):
     starts |= {place for place, _, name, is_function in symbols
                if is_function and ".cold" not in name and place < count}
     roots = starts | taken | {place for place, *_ in symbols if place < count}
-    linked.entered = {target for target in targets if target is not None} | roots
     begins = roots | {place + 1 for place, step in enumerate(found) if steps.is_call(step)}
     pointers = linked.pointers(begins | {target for target in targets if target is not None})
-    if any(steps.is_call(step) and targets[place] is None or step.insn.name == "jmp"
-           for place, step in enumerate(found)):
-        taken = taken | linked.taken(pointers)
-        roots = roots | taken
-    first = code = flow.Code(found, targets, roots, starts, (), {}, linked.after, taken)
-    # A jump may be reached only by another one's table, so they are looked for until no more are found.
+
+    def followed(taken, tables):
+        return with_tables(lambda tables: flow.Code(found, targets, roots | taken, starts, (), tables, linked.after,
+                                                    taken), lambda code: linked.reader(pointers, code), tables)
+    # Where it is seen where each jump and call leads, no address that the program has leads anywhere else.
+    code = followed(taken, {})
     for _ in range(MOST_ROUNDS):
-        tables = linked.tables(pointers, code.returns().states)
+        more = linked.taken(pointers, code) | taken if code.returns().goes_by_address() else taken
+        if more <= taken:
+            return code
+        code, taken = followed(more, code.tables), more
+    return followed(set(range(count)), {})
+
+
+def with_tables(made, reader, tables):
+    """The code with the tables that its jumps go by, beginning with some that are to be shown. A jump may be reached
+    only by another one's table, so they are looked for until no more are found."""
+    code = made(tables)
+    for _ in range(MOST_ROUNDS):
+        tables = jumps.tables(code, reader(code))
         if tables == code.tables:
             return code
-        code = flow.Code(found, targets, roots, starts, (), tables, linked.after, taken)
-    return first
+        code = made(tables)
+    return made({})
 
 
 def whole_program(*words):

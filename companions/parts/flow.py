@@ -50,9 +50,8 @@ class Code:
     def strange_of(self):
         """The places in the midst of functions that an address or a word that leaves one makes known: whoever goes
         there by it may have other registers than the function has."""
-        of_tables = {place for places in self.tables.values() for place in places}
         behind = {self.after[place] for place in range(len(self.steps)) if self.links_back(place)} - {None}
-        return ((self.taken - self.functions - of_tables | behind) & self.reached) - self.entries
+        return ((self.taken - self.functions | behind) & self.reached) - self.entries
 
     def returns(self):
         """What the flow shows of its functions, found once."""
@@ -266,6 +265,19 @@ class Returns:
         if steps.is_call(step) or step.insn.name in ("jmp", "jsr_coroutine") and place not in self.code.tables:
             return True
         return None in self.code.next[place]
+
+    def goes_by_address(self):
+        """Whether anything may lead to where the flow doesn't see: a call or a jump by a register, or a return that
+        isn't shown to be one."""
+        code, calls = self.code, {}
+        for place in code.reached:
+            step = code.steps[place]
+            if steps.is_call(step):
+                calls.setdefault(code.targets[place], set()).add(steps.link_of(step))
+            elif step.insn.name in ("jmp", "jsr_coroutine") and place not in code.tables:
+                return True
+        return None in calls or any(link is None or calls.get(entry, set()) - {link}
+                                    for pairs in self.links.values() for entry, link in pairs)
 
     def note_jump(self, entry, place, state):
         """A jump that isn't followed: it ends a function, which the other one returns from, or may go anywhere."""

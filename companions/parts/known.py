@@ -2,9 +2,10 @@
 
 A state has what is known of registers, by number, and of slots of the stack, by ("slot", depth). A value is
 ("entry", R), what R had where the function began; ("number", N); ("stack", N), N bytes from where $30 stood then, or
-with None somewhere at or above $30; ("pointer", N) and ("table", N), from the global pointer; ("code", PLACE), the
-address of a place. Of memory below $30 there are ("below", PLACE), an address that was made below it at a place;
-("inside", PLACE), one that was reckoned from that; and STALE, of which nobody knows any more whether it lies below.
+with None somewhere at or above $30; ("pointer", N) and ("table", N), from the global pointer; ("half", NAME) and
+("symbol", NAME), an address as a text names it; ("code", PLACE), the address of a place. Of memory below $30 there are
+("below", PLACE), an address that was made below it at a place; ("inside", PLACE), one that was reckoned from that; and
+STALE, of which nobody knows any more whether it lies below.
 """
 import functools
 
@@ -13,6 +14,8 @@ from . import steps, table
 STACK, STALE = ("stack", None), ("stale", None)
 LOWER = ("below", "inside", "stale")
 ALIGNED = 8
+# The relocations of the two halves of an address, from the global pointer.
+HIGH, LOW = "gprelhigh", "gprellow"
 NEGATED = {"addq": 1, "subq": -1, "addq/v": 1, "subq/v": -1}
 TAINTS = set(table.OPERATE[0x10].values()) | set(table.OPERATE[0x11].values()) | set(table.OPERATE[0x12].values())
 TAINTS -= {"cmpbge", "cmpult", "cmpeq", "cmpule", "cmplt", "cmple", "amask", "implver"}
@@ -73,7 +76,7 @@ def value_of(step, state, place=None):
     if name in ("br", "bsr") or name in table.JUMP:
         return None
     if step.symbol is not None:
-        return None
+        return named(step, state.get(rb), rb)
     if name in ("lda", "ldah"):
         # What is made from the global pointer is a place of the data.
         base = ("number", 0) if rb == 31 else ("pointer", 0) if rb == steps.GP != ra else state.get(rb)
@@ -84,6 +87,21 @@ def value_of(step, state, place=None):
         return (state.get(("slot", base[1] + steps.displacement_of(step))) if base[0] == "stack" and base[1] is not None
                 else None)
     return operated(step, state, place) if step.word >> 26 in table.OPERATE else None
+
+
+def named(step, base, register):
+    """What is known of an address that a text names."""
+    if step.insn.name == "ldah" and register == steps.GP and symbol_of(step.symbol, HIGH) is not None:
+        return "half", symbol_of(step.symbol, HIGH)
+    if step.insn.name == "lda" and base is not None and base == ("half", symbol_of(step.symbol, LOW)):
+        return "symbol", base[1]
+    return None
+
+
+def symbol_of(text, relocation):
+    """The name of a symbol with a relocation, or None."""
+    name, _, by = text.rpartition("!")
+    return name if by == relocation else None
 
 
 def operated(step, state, place):
@@ -144,7 +162,7 @@ def tainted(name, values, registers, target, place):
 
 def moved(value, distance, target=None, place=None, is_top=False):
     """A value with a number added. `is_top` says that it is that of $30."""
-    if value is None or value[0] in ("entry", "code"):
+    if value is None or value[0] in ("entry", "code", "half", "symbol"):
         return value if distance == 0 else None
     if value[0] in LOWER:
         if distance == 0 or value == STALE:
