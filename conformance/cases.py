@@ -9,7 +9,7 @@ import struct
 from collections import namedtuple
 
 import families
-from families import lines, state, wild
+from families import chosen, lines, state, wild
 from parts import files
 
 HERE = os.path.dirname(os.path.abspath(__file__))
@@ -88,6 +88,7 @@ def long_source(words, condition):
 
 LINES = {"branches": ("Branches, 1 where they are taken.", lines.branches),
          "addresses": ("LDA and LDAH.", lines.addresses),
+         "literals": ("Each number of bits or bytes as a literal.", lines.literals),
          "bases": ("Loads whose base is loaded, stores, links, and what R31 takes.", lines.bases),
          "flags": ("Conditional stores behind each kind of word, 1 where the flag was still set.", lines.flags),
          "flags-zero": ("As values-flags, of the block at address 0.", lambda: lines.flags("$31"), state.LOW),
@@ -111,7 +112,7 @@ def made_sources():
     two = files.read_text(os.path.join(HERE, "sources", "late-two.s")).split("\n", 2)[2]
     made |= {f"late-two-{steps}": f"# As late-two, which exits with its ninth step, by {steps} steps.\n{two}"
              for steps in (4, 5, 8, 9)}
-    return made | wild.sources() | families.sources()
+    return made | wild.sources() | chosen.sources() | families.sources()
 
 
 def rows(triples):
@@ -129,6 +130,36 @@ def shifts():
     """Values with each number of bytes and some of bits, and with bits that mean nothing."""
     return rows([(a, b, 0x5555AAAA) for a in (0x8877665544332211, 0x123456789ABCDEF) for b in
                  (0, 1, 2, 3, 4, 5, 6, 7, 8, 15, 31, 32, 33, 62, 63, 64, 0xF9, 0x80, 0x8000, -1, 1 << 63)])
+
+
+def spread():
+    """Each bit alone as one operand, numbers that differ in one bit, and those of all widths, so that products lie
+    close to the bounds."""
+    chosen, found = random.Random(90), []
+    for n in range(64):
+        a, b = chosen.getrandbits(64), chosen.getrandbits(64)
+        found += [(1 << n, a), (b, 1 << n), (-1 << n, 1 << n), (a, a ^ 1 << n)]
+    for most in (31, 32, 33, 63, 64, 65):
+        for width in range(1, most, 3 if most > 33 else 2):
+            one, other = (chosen.getrandbits(size) | 1 << size - 1 for size in (width, min(most - width, 64)))
+            found += [(chosen.choice((1, -1)) * one, chosen.choice((1, -1)) * other)]
+    return rows([(a, b, 0xA55AA55A5AA55AA5) for a, b in found])
+
+
+def turned():
+    """Each number of bits, and each bit that means nothing."""
+    chosen = random.Random(91)
+    found = [(chosen.getrandbits(64), b) for b in [*range(64), *[1 << n for n in range(6, 64)]]]
+    found += [(sign * chosen.getrandbits(32), b) for b in range(64) for sign in (1, -1)]
+    return rows([(a, b, 0xA55AA55A5AA55AA5) for a, b in found])
+
+
+def overflowing():
+    """Operands by which each /V word overflows where its registers are one, R31 or a literal, and those just below."""
+    bounds_of = [bound - less for bound in (1 << 31, 1 << 63) for less in (0, 1, 126, 127, 128, 129, 255, 256)]
+    found = [*bounds_of, *[-bound for bound in bounds_of], *[sign << n for n in (16, 24, 25, 30, 48, 56, 57, 62)
+                                                             for sign in (1, -1)]]
+    return rows([(value, value, value) for value in found])
 
 
 def few():
@@ -172,20 +203,22 @@ def quadwords(*values):
 # ---- how each image is run
 
 CASES = {
-    "values-arithmetic": PLAIN._replace(given=pairs(), is_watched=False),
+    "values-arithmetic": PLAIN._replace(given=pairs() + spread(), is_watched=False),
     "values-triggers": PLAIN._replace(given=pairs(), is_watched=False, completions=("wrap", "saturate")),
-    "values-comparisons": PLAIN._replace(given=pairs(), is_watched=False),
-    "values-moves": PLAIN._replace(given=pairs(), is_watched=False),
-    "values-extracts": PLAIN._replace(given=shifts(), is_watched=False),
-    "values-masks": PLAIN._replace(given=shifts(), is_watched=False),
-    "values-features": PLAIN._replace(given=shifts(), is_watched=False),
+    "values-comparisons": PLAIN._replace(given=pairs() + spread(), is_watched=False),
+    "values-moves": PLAIN._replace(given=pairs() + spread(), is_watched=False),
+    "values-extracts": PLAIN._replace(given=shifts() + turned(), is_watched=False),
+    "values-masks": PLAIN._replace(given=shifts() + turned(), is_watched=False),
+    "values-features": PLAIN._replace(given=shifts() + bits(), is_watched=False),
     "values-counts": PLAIN._replace(given=pairs() + bits(), is_watched=False),
-    "values-products": PLAIN._replace(given=bounds(), is_watched=False, completions=("wrap", "saturate")),
+    "values-products": PLAIN._replace(given=bounds() + spread(), is_watched=False, completions=("wrap", "saturate")),
     **{f"values-forms-{name}": PLAIN._replace(given=few(), is_watched=False) for name in FORMS},
-    "values-forms-triggers": PLAIN._replace(given=few(), is_watched=False, completions=("wrap", "saturate")),
-    **{f"values-{name}": PLAIN._replace(given=values() if name == "branches" else few(), is_watched=False)
+    "values-forms-triggers": PLAIN._replace(given=few() + overflowing(), is_watched=False,
+                                            completions=("wrap", "saturate")),
+    **{f"values-{name}": PLAIN._replace(given=values() + bits() if name == "branches" else few(), is_watched=False)
        for name in LINES},
     **{name: PLAIN._replace(completions=ALL, journals=("1", "2", "3", "late")) for name in wild.sources()},
+    **{name: PLAIN._replace(completions=ALL, is_watched=False, journals=MANY) for name in chosen.sources()},
     "reads": PLAIN._replace(given=b"twenty bytes, or so\n"),
     **{f"late-two-{steps}": PLAIN._replace(steps=steps, completions=ALL, journals=SOME) for steps in (4, 5, 8, 9)},
     "locks": PLAIN._replace(completions=ALL, journals=SOME),

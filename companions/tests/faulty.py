@@ -54,6 +54,20 @@ def test_a_sample_of_wrong_emulators_is_caught(_):
     want((status, said.splitlines()[-1].split()[0]), (0, "all"), said)
 
 
+def test_what_caught_a_fault_before_is_tried_first(folder):
+    """And where it no longer does, or isn't there, the others are tried."""
+    path = os.path.join(folder, "earlier")
+    _, found = faulty("--only", "first-inswh")
+    for before, wanted in ((found, found.splitlines()[0]),
+                           ("first-inswh: caught: values-forms-extracts.none: told\n", found.splitlines()[0]),
+                           ("first-inswh: caught: calls-wide.exit-value-0: told\n", found.splitlines()[0]),
+                           ("first-inswh: caught: answers/values-forms-extracts.wrap.notes: told\n",
+                            "first-inswh: caught: answers/values-forms-extracts.wrap.notes: ")):
+        write(path, before.encode())
+        status, said = faulty("--only", "first-inswh", "--before", path)
+        want((status, said.splitlines()[0][:len(wanted)]), (0, wanted), before)
+
+
 def test_the_text_of_each_fault_stands_once(_):
     sys.path.insert(0, SUITE)
     from emulator import faults  # it stands in the folder above
@@ -66,10 +80,10 @@ def test_the_text_of_each_fault_stands_once(_):
 # Of some faults, how they are run over which files, and what is told of the place.
 PLACES = [
     ("first-inswh", "--run", RUN, "answers/values-extracts", [
-        "values-extracts.s:87: inswh $1,$2,$3 is otherwise in 21 of 42 rows\n    otherwise: $1 = 0x8877665544332211, "
+        "values-extracts.s:87: inswh $1,$2,$3 is otherwise in 62 of 292 rows\n    otherwise: $1 = 0x8877665544332211, "
         "$2 = 0x7 gives 0x0, and 0x22 is wanted\n",
         "\n    right: $1 = 0x8877665544332211, $2 = 0x0 gives 0x0\n",
-        "otherwise too: inswh $1,188,$3 in 21\n  right in all rows: 26 of 28 lines\n"]),
+        "otherwise too: inswh $1,188,$3 in 47\n  right in all rows: 26 of 28 lines\n"]),
     ("addq/v-saturate", "--run", RUN, "answers/completions.saturate", [
         "$3 is set by completions.s:23: addq/v $2,1,$3, with $2 = 0x7fffffffffffffff\n"]),
     ("addl/v-overflows-at-its-least", "--run", RUN, "answers/values-triggers.wrap", [

@@ -44,6 +44,20 @@ def forms(names):
         yield zero, [zero, "bis $31,$31,$3"]
 
 
+def literals():
+    """Each number by which a shift or a byte instruction goes on, as a literal."""
+    for name in ("sll", "srl", "sra"):
+        for number in range(64):
+            yield f"{name} $1,{number},$3", [f"{name} $1,{number},$3"]
+    for name in late.operates():
+        if name[:3] in ("ext", "ins", "msk"):
+            for number in range(8):
+                yield f"{name} $1,{number},$3", [f"{name} $1,{number},$3"]
+        elif name in ("zap", "zapnot"):
+            for number in (*(1 << bit for bit in range(8)), *(255 - (1 << bit) for bit in range(8))):
+                yield f"{name} $1,{number},$3", [f"{name} $1,{number},$3"]
+
+
 def branches():
     """Each branch, taken and not: 1 where it is taken."""
     for name in late.BRANCHES:
@@ -106,6 +120,11 @@ def flags(base="$9"):
         if "ld" in name and name not in ("lda", "ldah"):
             line = line.replace("72($9)", "24($9)")
         yield f"stq_c behind {line}", [*before, f"ldq_l $5,8({base})", line, "lda $3,7($31)", f"stq_c $3,0({base})"]
+    for name in (*late.STORES[:5], *late.LOADS[:5]):
+        for at in (0, 8, 16):
+            line = f"{name} {'$1' if name in late.STORES else '$5'},{at}({base})"
+            yield (f"stq_c behind {line}, which ldq_l had",
+                   [f"ldq_l $5,{at}({base})", line, "lda $3,7($31)", f"stq_c $3,{at}({base})"])
     for name, words in (("a write", ["lda $0,4($31)", "lda $16,1($31)", "clr $18"]),
                         ("a read", ["lda $0,3($31)", "clr $16", "clr $18"]),
                         ("a write elsewhere", ["lda $0,4($31)", "lda $16,2($31)"])):
@@ -125,3 +144,11 @@ def flags(base="$9"):
     for name in ("addl/v", "subl/v", "mull/v", "addq/v", "subq/v", "mulq/v"):
         yield (f"stq_c behind {name} $1,$2",
                [f"ldq_l $5,8({base})", f"{name} $1,$2,$4", "lda $3,7($31)", f"stq_c $3,0({base})"])
+        for register, literal in (("$4", 1), ("$31", 1), ("$31", 255)):
+            # Each of these overflows, whatever the row is.
+            great = ["lda $4,1($31)", "sll $4,63,$4" if "q" in name else "sll $4,31,$4"]
+            less = [] if name.startswith("sub") else ["not $4,$4"] if name.startswith("add") else ["srl $4,1,$4"]
+            number = literal if not name.startswith("mul") else 255
+            yield (f"stq_c behind {name} $4,{number},{register}, which overflows",
+                   [*great, *less, f"ldq_l $5,8({base})", f"{name} $4,{number},{register}", "lda $3,7($31)",
+                    f"stq_c $3,0({base})"])

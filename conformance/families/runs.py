@@ -114,6 +114,10 @@ def calls():
                   "the count.",
                   back=["        .segment 0x10002000", "        .byte 65,66,67", "        .zero 10"])
     made.add("call", ["mov $1,$0", "mov $2,$16", "mov $3,$17", "mov $4,$18", "lda $19,77($31)", "callsys", "br dump"])
+    made.add("unique", ["mov $1,$16", "wrunique", "clr $16", "rdunique", "trapb", "br dump"])
+    made.add("first", ["rdunique", "trapb", "br dump"])
+    made.add("kept", ["mov $1,$16", "wrunique", "lda $0,99($31)", "callsys", "clr $16", "rdunique", "mov $0,$7",
+                      "rdunique", "br dump"])
     cell, end = CELLS + 64, made.end()
     good = {3: (0, cell, 8), 4: (1, cell, 8)}
     told = {}
@@ -124,6 +128,7 @@ def calls():
     for number, (descriptor, address, count) in good.items():
         for bit in (0, 1, 2, 8, 31, 32, 63):
             told[f"descriptor-{number}-{bit}"] = (number, descriptor ^ 1 << bit, address, count)
+            told[f"descriptor-{number}-{bit}-none"] = (number, descriptor ^ 1 << bit, address, 0)
         for bit in (29, 31, 32, 63):
             told[f"address-{number}-{bit}"] = (number, descriptor, address | 1 << bit, count)
         for bit in (16, 31, 32, 33, 62, 63):
@@ -160,12 +165,8 @@ def calls():
                                                + b"The rest of the input, 40 bytes of it.!!"[:40])
     for value in (0, 1, 255, 1 << 32, 1 << 63, MASK):
         made.run(f"exit-value-{value:x}", "call", f"exit by {value:#x}: all 64 bits are the value", {1: 1, 2: value})
-    made.add("unique", ["mov $1,$16", "wrunique", "clr $16", "rdunique", "trapb", "br dump"])
     made.run("unique", "unique", "the unique value has 64 bits", {1: 0x8877665544332211})
-    made.add("first", ["rdunique", "trapb", "br dump"])
     made.run("unique-first", "first", "the unique value is 0 at the start", {})
-    made.add("kept", ["mov $1,$16", "wrunique", "lda $0,99($31)", "callsys", "clr $16", "rdunique", "mov $0,$7",
-                      "rdunique", "br dump"])
     made.run("unique-kept", "kept", "a system call leaves the unique value, and so does reading it", {1: 5})
     return made
 
