@@ -26,3 +26,13 @@ class Asked:
         done = subprocess.run([self.path, *words], input=given, capture_output=True, check=False, cwd=self.folder.name,
                               timeout=60)
         return done.returncode, done.stdout, done.stderr
+
+    def kept(self, name):
+        """The content of a file that a call kept, None where there is none; it is removed."""
+        path = os.path.join(self.folder.name, name)
+        if not os.path.exists(path):
+            return None
+        with open(path, "rb") as file:
+            content = file.read()
+        os.remove(path)
+        return content

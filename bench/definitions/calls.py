@@ -206,7 +206,7 @@ class Listed:
 
     def cases(self, chooser, count, asked):
         for n in range(count):
-            whole = drawn.program(chooser, n % 2 == 0)
+            whole = drawn.program(chooser, n % 2 == 0, 1 + n % 3 // 2, n % 2)
             yield whole, asked.call("dis", "FILE", FILE=whole.spelled())
 
     def difference(self, d, case):

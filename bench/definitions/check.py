@@ -6,7 +6,7 @@
 A program of Python translates the text of the definitions, those of the clauses that data.py names and of answers of
 `run`, into functions; nothing of them is written by hand. These are held against words that GNU as made, results that
 were measured on qemu-alpha, worked verdicts and images, programs with their output, the models of companions/parts, and
-the built program, crates/alpha_tool/out/alpha_tool where none is given. A sample takes under two minutes of a
+the built program, crates/alpha_tool/out/alpha_tool where none is given. A sample takes under three minutes of a
 processor, --whole some fifty.
 
 How many lines of each file were run is held against the reading order of docs/theorems.md; --lines tells which weren't,
@@ -22,18 +22,19 @@ import time
 sys.dont_write_bytecode = True
 HERE = os.path.dirname(os.path.abspath(__file__))
 sys.path = [path for path in sys.path if os.path.abspath(path or ".") != HERE] + [os.path.dirname(HERE)]
-from definitions import calls, commands, data, facts, images, library, lines, moments, places, refused  # noqa: E402
-from definitions import replies, runs, slips, words  # noqa: E402
+from definitions import calls, commands, data, facts, images, journals, library, lines, moments, places  # noqa: E402
+from definitions import refused, replies, runs, sessions, slips, tables, words  # noqa: E402
 from definitions.asking import Asked  # noqa: E402
 from definitions.running import Definitions, deeply  # noqa: E402
 from definitions.sources import TOP  # noqa: E402
 from definitions.translate import key_of  # noqa: E402
 
-GROUPS = [refused.Refused(), library.Library(), words.Words(), words.Values(), words.Taken(), places.Places(),
-          places.Longest(), runs.Programs(), runs.Sequential(), runs.Late(), moments.Moments(), moments.Waits(),
-          moments.Each(), images.Fronts(), images.Images(), calls.Ran(), calls.Checked(), calls.Listed(),
-          calls.Spoken(), replies.Readings(), replies.Replied(), commands.Runs(), facts.Facts(), facts.Follows(),
-          facts.Scans()]
+GROUPS = [refused.Refused(), library.Library(), words.Words(), words.Values(), words.Taken(), tables.Tables(),
+          tables.Lines(), places.Places(), places.Longest(), runs.Programs(), runs.Sequential(), runs.Late(),
+          moments.Moments(), moments.Waits(), moments.Each(), images.Fronts(), images.Images(), calls.Ran(),
+          calls.Checked(), calls.Listed(), calls.Spoken(), replies.Readings(), replies.Replied(), commands.Runs(),
+          sessions.Commands(), sessions.Sessions(), journals.Spellings(), journals.Records(), journals.Replays(),
+          facts.Facts(), facts.Follows(), facts.Scans()]
 MOST_SHOWN = 3
 
 

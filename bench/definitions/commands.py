@@ -14,6 +14,8 @@ from .translate import record
 
 MOST, MOST_WORDS, CHOICES, OTHER = 150, 400, bytes(range(1, 65)), bytes(range(2, 66))
 SPENT, SHELF, MEMORY = ("StepsSpent",), ("ShelfFault",), ("NoMemory",)
+# Of an opcode that no instruction has.
+NO_WORD = 1 << 26
 Case = namedtuple("Case", "kind whole how steps watch seed given words answered")
 # A call as the devices have it: its words, its status, what shelf and source replied, and what was put.
 Made = namedtuple("Made", "words status replies calls out notes faults is_told")
@@ -51,12 +53,12 @@ class Runs:
     name, about = "asked runs", "`runs` of calls of the program by words with options, and with something else"
     counts = {"sample": 45, "whole": 720}
     is_quick = False
-    KINDS = ("run", "seed", "forced", "choices", "forced choices", "dis", "check", "debug", "trial")
+    KINDS = ("run", "seed", "forced", "choices", "forced choices", "dis", "check", "trial")
     # What is otherwise: methods of `Held`. Each gives the call and whether the clause holds of it, or None where that
     # isn't known or there is nothing of the kind.
     WAYS = ("as_it_was", "told", "ended_otherwise", "drawn_otherwise", "denied", "refused", "short_of_memory",
-            "failed_input", "failed_sink", "too_large", "too_large_otherwise", "more_output", "fewer_notes",
-            "output_fault", "notes_fault", "another_file", "read_twice", "unaccepted", "more_taken", "fewer_taken",
+            "failed_input", "failed_sink", "too_large", "more_output", "fewer_notes", "output_fault", "notes_fault",
+            "another_file", "bad_image", "told_otherwise", "read_twice", "unaccepted", "more_taken", "fewer_taken",
             "cut", "fewer_steps", "just_the_steps", "watched", "another_seed", "other_choices", "no_choices",
             "choices_first")
 
@@ -70,15 +72,13 @@ class Runs:
             steps = chooser.choice((0, 3, 20, 100, *((own, own, own + 1) if own else ())))
             case = Case(kind, whole, how, steps, chooser.random() < 0.5, chooser.randrange(9), given, None, None)
             words = self.words(case)
-            # A script of no command.
-            given = b"" if kind == "debug" else given
             answered = asked.call(*words, given=given, FILE=whole.spelled(), CHOICES=CHOICES)
-            yield case._replace(words=words, given=given, answered=answered)
+            yield case._replace(words=words, answered=answered)
 
     def words(self, case, **changed):
         """The words that ask for it."""
         case = case._replace(**changed)
-        if case.kind in ("dis", "check", "debug"):
+        if case.kind in ("dis", "check"):
             return case.kind, "FILE"
         if case.kind == "trial":
             return "trial", "1"
@@ -112,7 +112,7 @@ class Held:
     def __init__(self, d, case, words):
         self.d, self.case, self.words = d, case, words
         self.parts, self.content = parts_of(case.whole), tuple(case.whole.spelled())
-        self.other = drawn.refused(case.whole)
+        self.other, self.bad = drawn.refused(case.whole), drawn.longer(case.whole, NO_WORD)
         self.is_run, self.is_forced = case.words[0] == "run", "--force" in case.words
         self.has_choices = "--choices" in case.words
         self.run, self.changed = (self.precise(bytes(byte ^ way for byte in case.given)) for way in (0, 1))
@@ -145,19 +145,18 @@ class Held:
 
     def hand_in(self):
         late = [one for one in (self.late, self.late_changed) if one]
-        images = [self.parts, parts_of(self.other)]
+        images = [self.parts, parts_of(self.other), parts_of(self.bad)]
         self.d.given(images=images, plans=[record(image=one, ahead=ahead) for one in images for ahead in self.ahead],
                      events=[self.run.events, self.changed.events, self.run.events[:-1]],
                      late=[one.run.steps for one in late], drawn=[0, *(one.count + n for one in late for n in (0, 1))],
                      file_bytes=[tuple(CHOICES), tuple(OTHER)],
-                     pieces=[(self.content,), (self.content + (0,),), (tuple(self.other.spelled()),), (tuple(CHOICES),),
-                             (tuple(OTHER),)])
+                     pieces=[(tuple(one),) for one in (self.content, (*self.content, 0), self.other.spelled(),
+                                                       self.bad.spelled(), CHOICES, OTHER)])
 
     def status(self):
         """The status in the definitions' words, and the numbers that the program may end by."""
         if not self.is_run:
-            # What a session shows isn't translated: nothing is said of it where memory ran out.
-            return MEMORY if self.case.kind == "debug" else DONE, (0, 1)
+            return DONE, (0, 1)
         if self.is_forced:
             last = self.late.run.at.last_event
             own = self.d("alpha_cmd.Commands.Imprecise.imprecise_status")(
@@ -169,7 +168,8 @@ class Held:
 
     def called(self, made):
         """The call, by what the devices replied, and put. They tell nothing beforehand but where they are told."""
-        files = told({b"FILE": bytes(self.content), b"CHOICES": CHOICES}) if made.is_told else NONE
+        file = bytes(self.content) + b"x" * (made.is_told == "otherwise")
+        files = told({b"FILE": file, b"CHOICES": CHOICES}) if made.is_told else NONE
         left = some(()) if made.is_told else NONE
         devices = {"old_shelf": Device(files, replies=PAST[:1]), "old_input": Device(left, replies=PAST[:3]),
                    "new_shelf": Device(files, replies=PAST[:1] + made.replies),
@@ -189,7 +189,7 @@ class Held:
 
     def reads(self, **changed):
         """Something that the bytes of the file show."""
-        return self.with_(self.case.kind in ("debug", "trial"), **changed)
+        return self.with_(self.case.kind == "trial", **changed)
 
     def as_it_was(self):
         return self.made, True
@@ -198,7 +198,7 @@ class Held:
         return self.with_(True, is_told=True)
 
     def ended_otherwise(self):
-        return None if self.case.kind == "debug" else self.shows(status=DONE if self.own == SPENT else SPENT)
+        return self.shows(status=DONE if self.own == SPENT else SPENT)
 
     def drawn_otherwise(self):
         """Of a run that isn't forced the number of words is free."""
@@ -221,11 +221,7 @@ class Held:
         return self.with_(True, status=("SinkFault",))
 
     def too_large(self):
-        """A session ends so, by the limit of its script."""
-        return self.with_(self.case.kind == "debug" or self.denied()[1], status=("TooLarge", 1_048_576))
-
-    def too_large_otherwise(self):
-        return self.with_(self.denied()[1], status=("TooLarge", 1_048_575))
+        return self.with_(self.denied()[1], status=("TooLarge", 1_048_576))
 
     def more_output(self):
         return self.shows(out=self.made.out + b"x")
@@ -244,6 +240,14 @@ class Held:
     def another_file(self):
         file = pieces_of(b"FILE", (self.content + (0,), ()))
         return self.reads(replies=file + self.made.replies[2:])
+
+    def bad_image(self):
+        """Bytes of parts that are no image, as a word behind the code is none."""
+        return self.reads(replies=pieces_of(b"FILE", (tuple(self.bad.spelled()), ())) + self.made.replies[2:])
+
+    def told_otherwise(self):
+        """Files are told, and the one that was read has other bytes there."""
+        return self.reads(is_told="otherwise")
 
     def read_twice(self):
         return self.reads(replies=self.made.replies * 2)

@@ -26,6 +26,8 @@ Make = namedtuple("Make", "fields")
 Change = namedtuple("Change", "base fields")
 Both = namedtuple("Both", "parts")
 Implies = namedtuple("Implies", "left right")
+# A record of facts, whose things `name` stands for in the body.
+Named = namedtuple("Named", "name fact body")
 # `binders` are Binder; "all" and "some" as in reader.py.
 Quantified = namedtuple("Quantified", "kind binders body")
 # A variable that is looked for: `sort` is the tuple of an enum's cases, "bool" or "data"; `key` names its domain, which
@@ -192,10 +194,13 @@ class Resolver:
             return self.term(body, scope)
         (name, of), *rest = binders
         sort = self.sort(of, scope)
-        if not sort:
-            left, right = self.term(of, scope), self.bound(kind, rest, body, scope)
-            return Implies(left, right) if kind == "all" else Both([left, right])
         own = fresh(name)
+        if not sort:
+            left = self.term(of, scope)
+            if kind == "all":
+                return Implies(left, self.bound(kind, rest, body, scope))
+            right = self.bound(kind, rest, body, {**scope, name: Var(own)} if is_record(left) else scope)
+            return Named(own, left, right) if own in free(right) else Both([left, right])
         KINDS[own] = text_of(of)
         inner = {**scope, name: Var(own)}
         binder = Binder(own, sort, f"{self.declaration.name}.{name}", inner)

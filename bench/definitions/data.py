@@ -16,6 +16,7 @@ ANSWERS = [("Rattle.alpha_cmd.specs.Commands.Imprecise", "answer_imprecise"),
 DOMAINS = {
     # No place past the end of the code holds a word, and the last that a condition speaks of is the end itself.
     "IsAccepted.trigger": "range(len({code}) + 1)", "IsAccepted.at": "range(len({code}) + 2)",
+    "IsLeastBroken.trigger": "range(len({code}) + 1)", "IsLeastBroken.at": "range(len({code}) + 2)",
     # Any element: it is never looked at, since the places are those of elements.
     "AllPairs.d": "{xs}[:1]", "All.d": "{xs}[:1]",
     # What is said of all lists of steps and of every image is tried on those that are handed in.
@@ -24,6 +25,11 @@ DOMAINS = {
     "RanTold.image": "given['images']", "Alike.image": "given['images']", "EndsWhere.image": "given['images']",
     "ListsFile.image": "given['images']", "EndsWherePlan.plan": "given['plans']",
     "EndsAsRun.image": "given['images']",
+    # An image with its journal, and what the shelf replied behind the words of a run with one.
+    "EndsWhereReplay.image": "given['images']", "EndsWhereReplay.listed": "given['journals']",
+    "IsReplayRead.middle": "data.fronts({new}, len({old}))", "AsksToKeep.journal": "given['journals']",
+    "EndsWhereRecord.plan": "given['plans']", "EndsWhereRecord.middle": "data.fronts({s}.history, len({s}.past))",
+    "EndsWhereRecord.replies": "data.rests({s}.history, len({s}.past))",
     # The file is one of the words.
     "Ran.file": "{words}", "Alike.file": "{words}", "Checked.file": "{words}", "Restarts.file": "{words}",
     "RanTold.file": "{words}", "Listed.file": "{words}",
@@ -35,6 +41,14 @@ DOMAINS = {
     "MadeByReads.drawn": "given['drawn']", "MadeByReads.coming": "((), (5, 1))",
     "IsEndStatus.end": "data.ends({status})", "IsEndStatus.lost": "data.lost({status})",
     "IsEndStatus.n": "data.drawn({status})",
+    # An image with its journal, a run that this may list, and where the run by words that are told stops.
+    "ReplaysFiles.image": "given['images']", "ReplaysFiles.listed": "given['journals']",
+    "ReplaysFiles.middle": "data.fronts({s}.history, len({s}.past))", "IsRun.run": "given['played']",
+    "ReadsAndKeeps.plan": "given['plans']", "ReadsAndKeeps.journal": "given['journals']",
+    "ReadsAndKeeps.middle": "data.fronts({s}.history, len({s}.past))",
+    "RecordedByReads.steps": "given['late']", "RecordedByReads.drawn": "given['drawn']",
+    "RecordedByReads.coming": "((), (5, 1))", "IsRecorded.place": "given['places']",
+    "IsJournaled.steps": "(len({to}.run.steps), len({to}.run.steps) + 1)", "IsTranscript.setting": "given['settings']",
     # The replies to some calls stand behind those before them: they are a front of what is new there.
     "IsRead.takes": "data.fronts({new}[len({old}):])", "FailsToRead.takes": "data.fronts({new}[len({old}):])",
     "HasGiven.takes": "data.fronts({new}[len({old}):])", "AnswersEach.mid": "data.fronts({new}, len({old}))",
@@ -44,13 +58,8 @@ DOMAINS = {
     "KeepsFiles.name": "given['names']", "KeepsOtherFiles.other": "given['names']",
 }
 
-# What isn't translated, and why. What is reached by these alone isn't counted.
-NAMED = {
-    "alpha_cmd.ReplayRan.ReplaysFiles": "a journal and its run are held against each other by bench/replay.py",
-    "alpha_cmd.RecordRan.ReadsAndKeeps": "what is recorded is held against the run by bench/recorded.py",
-    "alpha_cmd.RecordRan.ShowsRecord": "what is recorded is held against the run by bench/recorded.py",
-    "alpha_cmd.SessionRan.ShowsSession": "sessions are held against a model of them by bench/debug.py",
-}
+# What isn't translated, and why: nothing that the clauses reach. What is reached by these alone isn't counted.
+NAMED = {}
 
 # Functions whose values are remembered by their arguments, and those that go by the number below, row by row.
 REMEMBERED = {"alpha_table.Words.class_in"}
@@ -63,6 +72,11 @@ def fronts(items, least=0):
 
 
 Trap = namedtuple("Trap", "mask pc")
+
+
+def rests(items, least=0):
+    """What stands behind the fronts of a list that have so many elements or more."""
+    return (items[begin:] for begin in range(least, len(items) + 1))
 
 
 class Ahead:

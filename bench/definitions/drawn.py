@@ -114,8 +114,12 @@ def repaired(words, most=400):
 
 def refused(whole):
     """The image with code behind its own that breaks a condition."""
-    return image.Image([*whole.words, operate("addq/v", 1, 2, 3)], whole.code_base, whole.entry, whole.segments,
-                       whole.stack)
+    return longer(whole, operate("addq/v", 1, 2, 3))
+
+
+def longer(whole, last):
+    """The image with a word behind its own code."""
+    return image.Image([*whole.words, last], whole.code_base, whole.entry, whole.segments, whole.stack, whole.level)
 
 
 def call(chooser):

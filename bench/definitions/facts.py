@@ -107,7 +107,7 @@ WORKED = [
     # No run draws as many words as a status can't have.
     ("alpha_cmd.ImpreciseRan.status_on", (ended_late(MASK),), ("Done", MASK)),
     ("alpha_cmd.ImpreciseRan.status_on", (ended_late(MASK + 6),), ("Done", 5)),
-    ("alpha_debug.Script.script_limit", (), 1_048_576),
+    ("alpha_debug.Script.script_limit", (), 1_048_576), ("alpha_cmd.OfImage.Debug.script_most", (), 1_048_577),
     # Counts go from their last value to 0, and on from half of it; register 3 has the sum already.
     ("alpha_seq.Step.logging", (state(), 3, 3), state(count=0, **LOGGED)),
     ("alpha_seq.Step.logging", (state(count=MASK >> 1), 3, 3), state(count=1 << 63, **LOGGED)),
@@ -118,6 +118,14 @@ WORKED = [
     ("alpha_seq.Devices.drawn", (SOURCE, Device(1, 2, replies=3), Device(4, 5, replies=6)),
      record(old=record(left=1, replies=3), new=record(left=4, replies=6), before=2, now=5)),
     ("alpha_io.SinkChange.sink_change", (SINK, Device(1, 2), Device(4, 5)), record(old=1, new=4, before=2, now=5)),
+    # The third bit of a word of choices decides whether the mask grows.
+    *(("alpha_imprecise.Chosen.executing", (word, 9),
+       record(choice=record(report=False, value=9, bytes=9, adds=adds), count=2))
+      for word, adds in ((0, False), (3, False), (4, True), (7, True), (8, False), (12, True))),
+    # No run that is over has these for its last step.
+    *(("alpha_imprecise.ChosenRun.end_of_imprecise_event", (event,), NONE)
+      for event in (("Triggered", 5), ("Waited", True, 5, 5), ("Reported", 8), ("Lost", 8, 2))),
+    ("alpha_imprecise.ChosenRun.lost_trap", (("Waited", True, 5, 5),), NONE),
     # No barrier waits.
     ("alpha_imprecise.Step.unpredictable_state", (NONE, REGS, None), REGS),
     ("alpha_imprecise.Step.unpredictable_state", (some(("barrier", NONE)), REGS, None), REGS),

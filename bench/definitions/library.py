@@ -39,6 +39,7 @@ BY_TEXT = {
     ("Rattle.core.specs.List", "range_with_len"): pairs(NUMBERS, NUMBERS),
     ("Rattle.core.specs.List", "concat"): [(LISTS,), ((),)],
     ("Rattle.core.specs.List", "flat_map"): [(lambda x: (x, x), xs) for xs in LISTS],
+    ("Rattle.alpha_imprecise.specs.ChosenRun", "first_words"): [(n, lambda k: 7 * k + 1) for n in NUMBERS],
 }
 # Worked values of what has no text, and of what is written in terms of that alone.
 BY_VALUE = {

@@ -73,6 +73,8 @@ NATIVES = {
     ("Rattle.core.specs.List", "range_with_len"): term(2, "tuple(range({0}, {0} + {1}))"),
     ("Rattle.core.specs.List", "concat"): term(1, "flattened({0})"),
     ("Rattle.core.specs.List", "flat_map"): term(2, "flattened(map({0}, {1}))"),
+    # Some forty thousand of them in a run of twenty steps.
+    ("Rattle.alpha_imprecise.specs.ChosenRun", "first_words"): term(2, "tuple(map({1}, range({0})))"),
     # Texts are the numbers of their characters.
     ("lib.Chars", "codes"): term(1, "tuple(map(ord, {0}))"),
 }

@@ -9,7 +9,7 @@ from .sources import TOP
 from .translate import record
 
 sys.path.insert(0, str(TOP / "companions"))
-from parts import image, machine, shadows, table  # noqa: E402  (behind the path)
+from parts import image, journal, machine, playing, shadows, table  # noqa: E402  (behind the path)
 from parts.files import Refused as files_refused  # noqa: E402
 from parts.machine import OPERATES  # noqa: E402
 

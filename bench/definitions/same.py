@@ -4,6 +4,14 @@ STEPS = "a run of a hundred million steps isn't tried; docs/commands.md has the 
 KEPT = "which files are told before and which after is the same to `KeepsFiles` and `KeepsOtherFiles`"
 FILLED = "`zeroed` bounds the data bytes of all segments together"
 ABOVE = "code that ends above 2 ^ 30 shares an address with the stack, which `regions` forbids"
+PROVED = "of an accepted image a run of the imprecise machine shows what one of the sequential machine does"
+PLAYED = "what a journal is that is replayed is proved beside, and held by `IsRun` and `IsSequential` alone"
+GOOD = "a good journal, which one that is kept is, is within the limits"
+USED = "a run with a journal stops where its units are used and nothing is pending, before it uses another one"
+SCRIPT = "a script of a mebibyte isn't tried"
+PLACED = "a word that overflows was fetched, so it has a place"
+BEHIND = "behind the word that sets the register no use of it is exposed"
+EMPTY = "code without a word has none that is its entry, which `entry` asks for"
 UNSEEN = "a report and a step with nothing pending look at no value that is chosen, nor at `adds`"
 TRIGGER = "a trigger looks at neither `report` nor `adds`; of a word that waits it is found"
 ALONE = "`destination_at` is that of a trigger alone, and `IsBroken` asks for one before"
@@ -21,12 +29,21 @@ SAME = {
     **{f"alpha_cmd:HasKept {kept}: arguments 1 and 2 change places": KEPT for kept in ("nothing", "file", "spoilt")},
     "alpha_image:FieldsFit filled: filled is left out": FILLED,
     "alpha_image:FieldsFit filled: 16777216 becomes 16777217": FILLED,
-    "alpha_image:FieldsFit words: part 3 is left out": ABOVE,
+    "alpha_cmd:ShowsPlan: part 2 is left out": PROVED,
+    "alpha_cmd:ReplaysFiles runs: runs is left out": PLAYED, "alpha_cmd:ReplaysFiles alike: alike is left out": PLAYED,
+    "alpha_cmd:HasRecorded within: within is left out": GOOD, "alpha_cmd:RecordedByReads most: most is left out": USED,
+    "alpha_cmd:SessionOnReplies most: most is left out": SCRIPT,
+    **{f"alpha_image:FieldsFit words: {change}": ABOVE
+       for change in ("part 3 is left out", "◌≤◌ becomes ◌<◌ (2)", "◌+◌ becomes ◌-◌", "◌*◌ becomes ◌+◌", "4 becomes 3",
+                      "2 becomes 3", "30 becomes 31")},
+    **{f"alpha_image:FieldsFit words: {change}": EMPTY for change in ("part 1 is left out", "◌<◌ becomes ◌≤◌")},
     "alpha_imprecise:choice_of: 0 becomes 1": UNSEEN,
     "alpha_imprecise:choice_of: 0 becomes 1 (2)": UNSEEN,
     "alpha_imprecise:choice_of: false becomes true": UNSEEN,
     "alpha_imprecise:choice_of Triggered: false becomes true": TRIGGER,
     "alpha_imprecise:choice_of Triggered: false becomes true (2)": TRIGGER,
+    "alpha_imprecise:triggered: 0 becomes 1": PLACED,
+    "alpha_shadow:ExposedIn below: ◌<◌ becomes ◌≤◌": BEHIND,
     "alpha_shadow:Holds SameDestination: part 2 is left out": ALONE,
     **{f"alpha_table:{one}_in: 25 becomes 26": EVEN for one in ("fetch", "jump", "misc", "pal")},
     **{f"alpha_table:{one}_in: 31 becomes 30": BRANCH for one in ("fetch", "jump", "misc")},

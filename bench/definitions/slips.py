@@ -14,7 +14,8 @@ import sys
 from collections import Counter
 
 from . import data
-from .core import KINDS, Both, Call, Case, Native, Part, Quantified, Use, Value, Var, explicit, is_data, text_of
+from .core import (KINDS, Both, Call, Case, Native, Part, Quantified, Use, Value, Var, explicit, free, is_data, put,
+                   text_of)
 from .lines import translated
 from .natives import NATIVES
 from .running import Definitions
@@ -144,11 +145,17 @@ def slips_of(translation, declaration, fields):
         for what, body in changes(line.body, scope, fields):
             yield line, what, lines[:n] + [line._replace(body=body)] + lines[n + 1:]
         for what, left in () if is_record else changes(line.left, set(), {}):
-            yield line, what, lines[:n] + [line._replace(left=left)] + lines[n + 1:]
+            if used(left, line.body) != used(line.left, line.body):
+                yield line, what, lines[:n] + [line._replace(left=left)] + lines[n + 1:]
         if is_record:
             yield line, f"{line.left.name} is left out", lines[:n] + [line._replace(body=Value("True"))] + lines[n + 1:]
         elif len(lines) > 1:
             yield line, "the case is left out", lines[:n] + lines[n + 1:]
+
+
+def used(left, body):
+    """Patterns as far as the body looks at them: of two variables that it doesn't use none is the other."""
+    return put(left, {name: Value("any") for name in variables(left) - free(body)})
 
 
 def variables(term):

@@ -7,8 +7,8 @@ of their names; one of several equations, as a run, becomes a function of its ot
 What has no such bound is refused.
 """
 from . import data
-from .core import (Binder, Both, Call, Case, Implies, Make, Native, Quantified, Tuple, Use, Value, Var, free, fresh,
-                   is_data, is_record, put)
+from .core import (Binder, Both, Call, Case, Implies, Make, Named, Native, Quantified, Tuple, Use, Value, Var, free,
+                   fresh, is_data, is_record, put)
 from .natives import NATIVES
 from .reader import Unknown
 
@@ -63,6 +63,8 @@ class Search:
         elif isinstance(term, Quantified) and term.kind == "some":
             self.binders += term.binders
             self.enter(term.body, depth)
+        elif isinstance(term, Named):
+            self.enter(put(term.body, {term.name: self.enter_named(term.fact, depth)}), depth)
         elif not self.unfolded(term, depth, is_own):
             self.premises.append(term)
 
@@ -279,6 +281,6 @@ class Search:
 def says_more(term):
     """Whether a body, put in the place of a name, may say which values a variable can have."""
     name, _ = native(term)
-    return (isinstance(term, Both) or isinstance(term, Quantified) and term.kind == "some"
+    return (isinstance(term, (Both, Named)) or isinstance(term, Quantified) and term.kind == "some"
             or name in (EQUATION, LESS, MOST)
             or isinstance(term, Call) and isinstance(term.head, Use))

@@ -371,6 +371,9 @@ class Translation:
     def code_Implies(self, term):
         return self.search("all", [], term)
 
+    def code_Named(self, term):
+        return self.search("some", [term], Value("True"))
+
     def code_Quantified(self, term):
         return self.search("all", [], term) if term.kind == "all" else self.search("some", [term], Value("True"))
 
