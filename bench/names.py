@@ -4,7 +4,8 @@
 - None is a word of PRIVATE, nor has one of PARTS in it: nobody could guess what it stands for, and a better one is
   beside it. Held are the names of items, fields and cases, clauses, parameters and files, and those behind `as`; not
   what the kit declares, nor a variable of a body.
-- No name that a file of lemmas makes public stands in two crates.
+- No name that a file of lemmas makes public stands in two crates, and no two crates make one statement public under
+  two names, but for those of TWINS.
 
     bench/names.py
 
@@ -107,6 +108,14 @@ DECLARED = re.compile(rf"\b(fn|struct|enum|trait|type|const|static|mod|macro_rul
 CLAUSE = re.compile(rf"\b(?:ensures|requires) ({NAME}) \{{")
 GHOST = re.compile(rf"\bghost ({NAME})(?: =|:)")
 PARAMETER = re.compile(rf"(?:#\[[^\]]*\]\s*|pub(?:\(\w+\))? |mut )*({NAME})\s*(?::(?!:)|$|[({{=])")
+# Of lemmas: a public statement, the names that one binds, and an import.
+STATEMENT = re.compile(rf"^pub ({NAME})\s+:((?:.*\n)(?:  .*\n)*)", re.M)
+BINDS = re.compile(rf"[({{]((?:{NAME}\s+)+):\s|λ\s*\(?((?:{NAME}\s*)+)[.:]")
+IMPORT = re.compile(r"^use (Rattle[\w.]+)\.\{([^}]*)\}", re.M)
+# Pairs of names for one statement that still stand: each is to be one.
+TWINS = {("length-asm_low_bytes", "low_bytes-length"), ("list_any-map", "list_any-map_names"),
+         ("IfErr-map", "err_with"), ("first-snoc", "first_append"), ("OnErr-always", "listing_OnErr-any"),
+         ("IsBytes-All", "bytes_of_all"), ("comma-tokens", "tokens-comma_first")}
 # Files of answers, whose names and whose items' names the kit gives.
 OF_THE_KIT = ("Answers", "Invariants", "Proof", "Given", "Lib", "lib", "main")
 
@@ -243,6 +252,38 @@ def declared():
         yield from ((path, text, *one) for one in found)
 
 
+def statements(text, module):
+    """The public lemmas of a file, each with its statement: bound names are numbered, imported ones have their module,
+    and brackets are left out."""
+    origin = {name.split(" as ")[-1].strip(): f"{found.group(1)}.{name.split(' as ')[0].strip()}"
+              for found in IMPORT.finditer(text) for name in found.group(2).split(",")}
+    own = {found.group(1) for found in re.finditer(rf"^(?:(?:pub|abbrev) )*({NAME})\s+:", text, re.M)}
+    for found in STATEMENT.finditer(text):
+        bound = {}
+        for group in BINDS.finditer(found.group(2)):
+            for name in (group.group(1) or group.group(2)).split():
+                bound.setdefault(name, str(len(bound)))
+        words = re.findall(r"[.,;]|[^\s(){}.,;]+", found.group(2))
+        yield found.group(1), found.start(1), " ".join(
+            bound.get(word) or origin.get(word) or (f"{module}.{word}" if word in own else word) for word in words)
+
+
+def twins():
+    """The public statements that two crates have under two names."""
+    places = collections.defaultdict(dict)
+    for path in sorted(TOP.glob("crates/*/proofs/**/*.antt")):
+        crate = path.relative_to(TOP).parts[1]
+        if path.stem in OF_THE_KIT:
+            continue
+        text = plain(path)
+        for name, at, said in statements(text, f"{crate}.{path.stem}"):
+            places[said].setdefault(crate, (name, f"{path.relative_to(TOP)}:{text.count(chr(10), 0, at) + 1}"))
+    for where in places.values():
+        names = tuple(sorted({name for name, _ in where.values()}))
+        if len(where) > 1 and names not in TWINS:
+            yield f"{' and '.join(names)} state the same: {', '.join(place for _, place in where.values())}"
+
+
 def check(wrong):
     """Holds all names: what is wrong is added to the list."""
     public, places = collections.defaultdict(dict), collections.defaultdict(list)
@@ -257,6 +298,7 @@ def check(wrong):
     wrong.extend(f"{text}: {', '.join(sorted(set(where)))}" for text, where in sorted(places.items()))
     wrong.extend(f"the public {name} stands in {len(where)} crates: {', '.join(where.values())}"
                  for name, where in sorted(public.items()) if len(where) > 1)
+    wrong.extend(twins())
 
 
 def main():
