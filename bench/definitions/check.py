@@ -35,7 +35,7 @@ GROUPS = [refused.Refused(), library.Library(), words.Words(), words.Values(), w
           calls.Checked(), calls.Listed(), calls.Spoken(), replies.Readings(), replies.Replied(), commands.Runs(),
           sessions.Commands(), sessions.Sessions(), journals.Spellings(), journals.Records(), journals.Replays(),
           facts.Facts(), facts.Follows(), facts.Scans()]
-MOST_SHOWN = 3
+MOST_SHOWN, LONGEST = 3, 600
 
 
 def tried(group, d, case):
@@ -56,7 +56,8 @@ def held(group, d, cases):
     print(f"{group.name}: {len(cases):,} cases, {len(differences) or 'no'} difference{'s' * (len(differences) > 1)} "
           f"({time.process_time() - begun:.1f} s): {group.about}", flush=True)
     for text in differences[:MOST_SHOWN]:
-        print(f"    {text[:600]}")
+        # What is found stands at the end, behind the case.
+        print(f"    {text if len(text) <= LONGEST else text[:LONGEST // 2] + ' .. ' + text[-LONGEST // 2:]}")
     return not differences
 
 

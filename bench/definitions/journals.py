@@ -9,7 +9,7 @@ from collections import namedtuple
 from . import drawn
 from .calls import DONE, Device, call_of, pieces_of, told, words_of
 from .commands import CHOICES, MEMORY, SHELF, SPENT, listed, seeded, steps_to_end
-from .reference import COMPLETIONS, NONE, Late, journal, parts_of, playing, program_of, some
+from .reference import COMPLETIONS, ENDS, NONE, Late, journal, parts_of, playing, program_of, some
 from .replies import PAST, readings
 from .translate import record
 
@@ -410,8 +410,20 @@ class Replays(Recorded):
             return f"{one.spelled().hex()} on {whole.spelled().hex()}: IsRun is {found}"
         if not d("alpha_shadow.Broken.IsAccepted")(tuple(whole.words)):
             return ""
-        # A run that goes on may be longer.
+        # A run that goes on may be longer, and one whose last read wanted more takes another byte too.
         found = [alike(image, parts, units), parts.ending[0] != "Spent" and alike(image, parts, units + 1),
                  *(alike(image, it, units) for it in others)]
-        return ("" if found == [True, False, False, False, False]
-                else f"{one.spelled().hex()} on {whole.spelled().hex()}: IsSequential is {found}")
+        wanted = [True, False, False, False, self.takes_another(whole, one, units)]
+        return ("" if found == wanted else
+                f"{one.spelled().hex()} on {whole.spelled().hex()}: IsSequential is {found}, and {wanted} is wanted")
+
+    def takes_another(self, whole, one, units):
+        """Whether the precise run of so many steps by the model takes a byte more too, and shows the same."""
+        run = Late(whole, one.completion, bytes(one.given) + b"\1")
+        steps = 0
+        while steps < units and not run.is_over():
+            run.advance()
+            steps += 1
+        ending = ("Spent",) if run.end is None else (run.end[0].capitalize(), *run.end[1:][:ENDS[run.end[0]]])
+        return (steps == units and run.taken == len(run.given) and bytes(run.put) == bytes(one.put)
+                and ending == listed_of(one).ending)
