@@ -152,7 +152,7 @@ fn begin(alloc: Global, plan: Plan, options: RunOptions) -> Result<Begun, Stop>
 {
     match Machine::new(alloc, plan.image, options.complete) {
         Ok(machine) => {
-            let wild = Wild::new(alloc, machine);
+            let wild = Wild::with_rows(alloc, machine);
             let chooser = CountingChooser::new(plan.chooser);
             Ok(Begun { wild, chooser })
         }

@@ -2,6 +2,7 @@
 //! may be anything (Architecture Handbook, arithmetic traps; the exact form is this project's own).
 //!
 //! - [`Wild`] is the machine: a sequential machine, and a trap that may be pending, a [`Pending`].
+//!   [`Wild::new`] makes it of a machine, and [`Wild::with_rows`] one that makes rows of its program in a long run.
 //!   [`Wild::step_by`] makes one step by the choices of someone who [`ChoiceSource`], [`Wild::step`] one by the words
 //! of a
 //!   [`Chooser`], and [`Wild::run_fast`] many steps that only go on.

@@ -1,4 +1,5 @@
 ghost use Rattle.std.specs.Prelude.{◌≡◌, ◌<◌, ◌≤◌, ◌+◌, ◌*◌, false, None, IfSome, IfOk, IfErr, IsTrue};
+ghost use Rattle.alpha_rows.specs.PassingSteps.{PassingSteps, AreRowsOf};
 
 use crate::step::step;
 use crate::{ChoiceSource, Chooser, Pending};
@@ -8,12 +9,13 @@ use alpha_seq::{Event, Fault, Machine};
 use std::alloc::Global;
 use std::marker::Model;
 
-/// The imprecise machine: a sequential machine with the rows of its program, and a trap that may be pending.
+/// The imprecise machine: a sequential machine, and a trap that may be pending. Rows of its program make its steps
+/// cheaper, where it has them.
 #[derive(Debug, Drop)]
 pub struct Wild {
     machine: Machine,
     pending: Option<Pending>,
-    rows: ProgramRows,
+    rows: Option<ProgramRows>,
 }
 
 impl Model for Wild {
@@ -26,7 +28,8 @@ impl Model for Wild {
     ghost view = { λ w. record { machine = w.machine; pending = w.pending } };
 
     ghost invariant = { λ w. (w.machine.kernel.user ≡ true)
-        × IfSome w.pending (λ p. p.waited ≤ 1024) × AreRowsOf w.machine.image w.rows };
+        × IfSome w.pending (λ p. p.waited ≤ 1024)
+        × IfSome w.rows (λ kept. AreRowsOf w.machine.image kept) };
 }
 
 impl Wild {
@@ -42,8 +45,23 @@ impl Wild {
     ghost use Rattle.alpha_imprecise.specs.ImpreciseStepEffect.{ImpreciseStepFaulted, StepMadeByChoice};
     ghost use Rattle.alpha_imprecise.specs.ImpreciseStepEffect.{StepFaultedByChoice};
 
-    /// The imprecise machine with nothing pending, over a machine in user mode.
-    pub fn new(alloc: Global, machine: Machine) -> Wild
+    /// The imprecise machine with nothing pending, over a machine in user mode. It makes no rows of its program, and
+    /// takes no memory.
+    pub fn new(machine: Machine) -> Wild
+        requires { IsTrue machine.kernel.user }
+        ensures machine { result.machine ≡ machine }
+        ensures pending { result.pending ≡ None }
+    {
+        Wild {
+            machine,
+            pending: None,
+            rows: None,
+        }
+    }
+
+    /// The same machine, but it makes rows of its program, late in a long run: steps that only go on cost about half
+    /// then. Where there is no memory for rows it goes on without.
+    pub fn with_rows(alloc: Global, machine: Machine) -> Wild
         requires { IsTrue machine.kernel.user }
         ensures machine { result.machine ≡ machine }
         ensures pending { result.pending ≡ None }
@@ -52,7 +70,7 @@ impl Wild {
         Wild {
             machine,
             pending: None,
-            rows,
+            rows: Some(rows),
         }
     }
 
@@ -97,7 +115,8 @@ impl Wild {
         self.run_on(units, false)
     }
 
-    /// The same, but it passes barriers that are no PAL calls too where `barriers` says so.
+    /// The same, but where `barriers` says so it may pass barriers that are no PAL calls too: those whose rows are
+    /// made.
     #[inline(always)]
     pub fn run_on(&mut self, units: u64, barriers: bool) -> u64
         ensures most { result ≤ units }
@@ -106,7 +125,7 @@ impl Wild {
         ensures same { Stays self.old.machine self.new.machine }
     {
         match self.pending {
-            None => self.rows.run_fast(&mut self.machine, units, barriers),
+            None => run_machine(&mut self.machine, &mut self.rows, units, barriers),
             _ => 0,
         }
     }
@@ -164,5 +183,24 @@ impl Wild {
         ensures same { Stays self.old.machine self.new.machine }
     {
         self.step_by(chooser, input, out)
+    }
+}
+
+// The steps of a machine that go on, by the rows of its program where it has them, else each by its word.
+#[inline(always)]
+fn run_machine(
+    machine: &mut Machine,
+    rows: &mut Option<ProgramRows>,
+    units: u64,
+    barriers: bool,
+) -> u64
+    requires { IfSome rows.old (λ kept. AreRowsOf machine.old.image kept) }
+    ensures most { result ≤ units }
+    ensures went { PassingSteps barriers result machine.old machine.new }
+    ensures rows { IfSome rows.new (λ kept. AreRowsOf machine.new.image kept) }
+{
+    match rows {
+        Some(rows) => rows.run_fast(machine, units, barriers),
+        None => machine.run_fast(units),
     }
 }

@@ -153,7 +153,7 @@ fn machine_at_start(
 {
     match Machine::new(alloc, image, completion) {
         Ok(machine) => {
-            let wild = Wild::new(alloc, machine);
+            let wild = Wild::with_rows(alloc, machine);
             Ok(wild)
         }
         Err(_) => Err(ReplayFault::NoMemory),

@@ -145,7 +145,7 @@ fn push_imprecise(
     ensures text { OnOk result (text.new.items ≡ text.old.items
         ++ line (codes "imprecise") image.words (making_tally (imprecise_run units image seed))) }
 {
-    let mut wild = Wild::new(alloc, Machine::new(alloc, image, Completion::Wrap)?);
+    let mut wild = Wild::with_rows(alloc, Machine::new(alloc, image, Completion::Wrap)?);
     let mut chooser = CountingChooser::new(PcgChooser::new(seed));
     let mut input = SureSource::new(Vec::new(alloc));
     let mut out = MemorySink::new(alloc, ROOM, Vec::new(alloc))?;

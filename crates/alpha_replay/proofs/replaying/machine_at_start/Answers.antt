@@ -6,7 +6,8 @@ use Rattle.alpha_replay.proofs.replaying.machine_at_start.Goals as goal
 
 pub returns-in-Ok-clause-fresh : goal.returns-in-Ok-clause-fresh
 returns-in-Ok-clause-fresh c = record {
-  nothing_pending = c.new-wild.ensures.pending;
+  nothing_pending = c.with_rows-wild.ensures.pending;
   start =
-      subst (λ (m : Machine). state_of m ≡ start (program_of m)) (sym c.new-wild.ensures.machine) c.in-Ok.ensures.start;
+      subst (λ (m : Machine). state_of m ≡ start (program_of m)) (sym c.with_rows-wild.ensures.machine)
+      c.in-Ok.ensures.start;
 }

@@ -12,7 +12,7 @@ use Rattle.alpha_trial.proofs.trials.push_imprecise.Goals as goal
 
 pub returns : goal.returns
 returns c =
-    let old = c.new-wild.result in
+    let old = c.with_rows-wild.result in
     let new = c.run_imprecise.new.wild in
     let written = c.run_imprecise.new.out.written in
     let count = c.run_imprecise.new.chooser.drawn in
@@ -20,13 +20,13 @@ returns c =
     let r = subst (λ (g : Lcg). MakesTo c.args.units (pcg_word g) old new written steps count)
     (c.new-chooser.ensures.chooser ∙ c.new-2.ensures) c.in_ok-steps.ensures.counts in
     let program : program_of old.machine ≡ wrapping c.args.image =
-    ap program_of c.new-wild.ensures.machine ∙ c.in_ok-new.ensures.program in
+    ap program_of c.with_rows-wild.ensures.machine ∙ c.in_ok-new.ensures.program in
     let begins : state_of old.machine ≡ start (program_of old.machine) =
     subst (λ (m : Machine). state_of m ≡ start (program_of m))
-    (sym c.new-wild.ensures.machine) c.in_ok-new.ensures.start in
+    (sym c.with_rows-wild.ensures.machine) c.in_ok-new.ensures.start in
     let small : count < 2 ^ 64 = subst (λ n. n < 2 ^ 64) c.drawn.ensures c.drawn.type_inv in
     let tally = imprecise_counted c.args.units c.args.image c.args.seed old new written steps count program begins
-    c.new-wild.ensures.pending c.requires.few small r in
+    c.with_rows-wild.ensures.pending c.requires.few small r in
     let words : new.machine.image.words ≡ c.args.image.words =
     ap (λ (g : Program). g.image.words) (r.program ∙ program) in
     let mode = codes "imprecise" in
