@@ -1,25 +1,30 @@
--- Steps that only go on, as moves of a replay.
-use Rattle.std.proofs.Common.{◌≡◌, ◌+◌, ℕ, zero, suc, Bool, true, false, cond, List, [], ◌∷◌, Option, refl, sym, ap}
-use Rattle.std.proofs.Common.{subst, ◌∙◌, append-nil, arith}
+-- Steps that only go on, or pass a barrier, as moves of a replay.
+use Rattle.std.proofs.Common.{◌≡◌, ◌+◌, ℕ, zero, suc, inl, inr, Bool, true, false, cond, List, [], ◌∷◌, ◌++◌, Option}
+use Rattle.std.proofs.Common.{None, refl, sym, ap, subst, ◌∙◌, append-nil, arith}
+use Rattle.alpha_pal.specs.Call.{Silent}
 use Rattle.alpha_pal.specs.declared.pal_end.Passed.TheVariants.{Nothing}
 use Rattle.alpha_seq.specs.declared.event.Event.TheVariants as events
-use Rattle.alpha_seq.specs.State.{Went}
-use Rattle.alpha_seq.specs.Machine.{state_of, class_here}
-use Rattle.alpha_seq.specs.StepLabel.{StepLabel, is_over}
+use Rattle.alpha_seq.specs.declared.event.Event.{Event as SeenEvent}
+use Rattle.alpha_seq.specs.State.{Program, Event, Went, Barriered}
+use Rattle.alpha_seq.specs.Run.{taken, output, Fed}
+use Rattle.alpha_seq.specs.Machine.{program_of, state_of, class_here}
+use Rattle.alpha_seq.specs.StepLabel.{StepLabel, is_over, HasPassed}
+use Rattle.alpha_seq.specs.Sequential.{seen_as}
 use Rattle.alpha_imprecise.specs.declared.pending.Pending.{Pending}
-use Rattle.alpha_imprecise.specs.StepResult.{Choice, Precisely}
-use Rattle.alpha_imprecise.specs.Run.{unit_of}
+use Rattle.alpha_imprecise.specs.StepResult.{Choice, ImpreciseEvent, Precisely}
+use Rattle.alpha_imprecise.specs.Step.{triggers, imprecise_step}
+use Rattle.alpha_imprecise.specs.Run.{given_to, unit_of}
 use Rattle.alpha_imprecise.specs.Chosen.{reporting}
 use Rattle.alpha_imprecise.specs.ChoiceSource.{Unasked, ValueAsked, asked_at, asked}
 use Rattle.alpha_imprecise.specs.ImpreciseState.{ImpreciseState, trap_in, waited_in}
-use Rattle.alpha_imprecise.specs.ImpreciseStepEffect.{ImpreciseStepBy, ImpreciseRetires}
-use Rattle.alpha_imprecise.specs.ImpreciseFastSteps.{ImpreciseFastSteps}
+use Rattle.alpha_imprecise.specs.ImpreciseStepEffect.{ImpreciseStepBy, StepsBy}
+use Rattle.alpha_imprecise.specs.ImpreciseFastSteps.{ImpreciseGoesOn, ImprecisePassingSteps}
 use Rattle.alpha_replay.specs.declared.moves.Move.TheVariants.{One}
 use Rattle.alpha_replay.specs.declared.play.Cursor.{Cursor}
 use Rattle.alpha_replay.specs.Compared.{Sees}
 use Rattle.alpha_replay.specs.FixedChoice.{given_choice}
-use Rattle.alpha_replay.specs.Listed.{units, move}
-use Rattle.alpha_replay.specs.ReplayEffect.{Place, place, ReplayEffect, Moved}
+use Rattle.alpha_replay.specs.Listed.{Played, units, move}
+use Rattle.alpha_replay.specs.ReplayEffect.{Place, place, IsLast, ReplayEffect, Moved}
 use Rattle.alpha_replay.specs.CursorState.{cursor_after}
 use Rattle.alpha_replay.proofs.MoveRows.{did_next, did_move}
 
@@ -27,48 +32,86 @@ unfinished : (cursor : Cursor) (n : ℕ) → is_over cursor.last ≡ false → i
 unfinished cursor zero e = e
 unfinished cursor (suc n) e = refl
 
--- nothing is asked
-given_none : (old new : ImpreciseState) → ImpreciseRetires old new → (reporting 0).choice ≡ given_choice One (asked old)
-given_none old new goes =
-    let o = class_here old.machine in
-    sym (ap (λ (p : Option Pending). given_choice One (asked_at o (state_of old.machine) (trap_in p) (waited_in p)))
-    goes.nothing_pending
-    ∙ ap (λ (b : Bool). given_choice One (cond b ValueAsked Unasked)) goes.exact)
+-- With nothing pending a word that doesn't overflow asks nothing. Where nothing passes either, it is the move One.
+module _ (old : ImpreciseState) (none : old.pending ≡ None)
+    (exact : triggers (class_here old.machine) (state_of old.machine) ≡ false) where
+  given_none : (reporting 0).choice ≡ given_choice One (asked old)
+  given_none =
+      let o = class_here old.machine in
+      sym (ap (λ (p : Option Pending).
+      given_choice One (asked_at o (state_of old.machine) (trap_in p) (waited_in p))) none
+      ∙ ap (λ (b : Bool). given_choice One (cond b ValueAsked Unasked)) exact)
 
--- a step that only goes on is the move One
-goes-moved : (old new : ImpreciseState) (input : List ℕ) → ImpreciseRetires old new
-    → Moved One events.Went old new input input
-goes-moved old new input goes =
-    let print : StepLabel =
-    record { units = 1; words = []; seen = Went ∷ []; event = events.Went; core = new.machine } in
-    let by : ImpreciseStepBy (reporting 0).choice old print new = record {
-      last_event = Precisely Went;
-      passed = Nothing;
-      seen = refl;
-      event = refl;
-      units = sym (ap (λ (p : Option Pending). unit_of (trap_in p)) goes.nothing_pending);
-      core = refl;
-      is = goes.step.is;
-      passes = (refl, refl);
-      waited = goes.step.waited;
-      kernel = goes.step.kernel;
-      program = goes.step.program;
-    } in
-    record {
-      label = print;
-      is = subst (λ (c : Choice). ImpreciseStepBy c old print new) (given_none old new goes) by;
-      event_is = refl;
-      fed = (refl, refl);
-    }
+  silent-moved : (last : Event) (event : SeenEvent) (new : ImpreciseState) (input : List ℕ)
+      → event ≡ seen_as last Nothing → given_to (Precisely last) ≡ []
+      → HasPassed event new.machine.memory (taken (last ∷ [])) (output (last ∷ []))
+      → Fed input (last ∷ []) input
+      → StepsBy (Precisely last) (reporting 0).choice old new
+      → Moved One event old new input input
+  silent-moved last event new input is unfed passes fed step =
+      let label : StepLabel =
+      record { units = 1; words = []; seen = last ∷ []; event = event; core = new.machine } in
+      let by : ImpreciseStepBy (reporting 0).choice old label new = record {
+        last_event = Precisely last;
+        passed = Nothing;
+        seen = refl;
+        event = is;
+        units = sym (ap (λ (p : Option Pending). unit_of (trap_in p)) none);
+        core = refl;
+        is =
+            ap (λ (l : List ℕ). imprecise_step (program_of old.machine) (state_of old.machine) (trap_in old.pending)
+            (reporting 0).choice l) unfed
+            ∙ step.is;
+        passes = passes;
+        waited = step.waited;
+        kernel = step.kernel;
+        program = step.program;
+      } in
+      record {
+        label = label;
+        is = subst (λ (c : Choice). ImpreciseStepBy c old label new) given_none by;
+        event_is = refl;
+        fed = fed;
+      }
 
-ReplayEffect-one : (expected : List ℕ) (old new : ImpreciseState) (input : List ℕ) (cursor : Cursor)
-    → is_over cursor.last ≡ false
-    → ImpreciseRetires old new
-    → ReplayEffect expected (λ g p. move g p One) (place old input cursor)
-    (place new input (record cursor { last = events.Went }))
-ReplayEffect-one expected old new input cursor going goes =
-    did_move One old input cursor new input events.Went (goes-moved old new input goes) expected cursor.seen going refl
-    (λ output before. subst (λ (l : List ℕ). Sees expected cursor.seen l) (sym (append-nil output)) before)
+-- behind a barrier a run is no more over than behind a step that only goes on
+barrier-went : (h : ImpreciseEvent) → IsLast (events.Barrier Nothing) h → IsLast events.Went h
+barrier-went h is = record { over = is.over; ending = is.ending }
+
+ReplayEffect-went : (expected : List ℕ) (part : Program → Played → Option Played) (a : Place) (new : ImpreciseState)
+    (input : List ℕ) (cursor : Cursor)
+    → ReplayEffect expected part a (place new input (record cursor { last = events.Barrier Nothing }))
+    → ReplayEffect expected part a (place new input (record cursor { last = events.Went }))
+ReplayEffect-went expected part a new input cursor one = record {
+  used = one.used;
+  steps = one.steps;
+  program = one.program;
+  fewer = one.fewer;
+  is = λ h is before n. let x = one.is h is before n in (x.0, barrier-went x.0 x.1, x.2);
+  sees = one.sees;
+}
+
+-- such a step puts nothing
+module _ (expected : List ℕ) (old new : ImpreciseState) (input : List ℕ) (cursor : Cursor)
+    (going : is_over cursor.last ≡ false) where
+  sees_none : (put : List ℕ) → Sees expected cursor.seen put → Sees expected cursor.seen (put ++ [])
+  sees_none put before = subst (λ (l : List ℕ). Sees expected cursor.seen l) (sym (append-nil put)) before
+
+  ReplayEffect-one : ImpreciseGoesOn true old new
+      → ReplayEffect expected (λ g p. move g p One) (place old input cursor)
+      (place new input (record cursor { last = events.Went }))
+  ReplayEffect-one (inl goes) =
+      did_move One old input cursor new input events.Went
+      (silent-moved old goes.nothing_pending goes.exact Went events.Went new input refl refl (refl, refl)
+      (refl, refl) goes.step)
+      expected cursor.seen going refl sees_none
+  ReplayEffect-one (inr passes) =
+      let h = passes.1 in
+      ReplayEffect-went expected (λ g p. move g p One) (place old input cursor) new input cursor
+      (did_move One old input cursor new input (events.Barrier Nothing)
+      (silent-moved old h.nothing_pending h.exact (Barriered Silent new.machine.pc new.machine.regs)
+      (events.Barrier Nothing) new input refl refl (refl, refl) (refl, refl) h.step)
+      expected cursor.seen going refl sees_none)
 
 went_after : (cursor : Cursor) (n : ℕ)
     → record (cursor_after cursor n) { last = events.Went } ≡ record cursor { last = events.Went }
@@ -79,7 +122,7 @@ went_after cursor (suc n) = refl
 pub ReplayEffect-fast : (expected : List ℕ) (n k : ℕ) (a : Place) (mid new : ImpreciseState) (input : List ℕ)
     (cursor : Cursor)
     → is_over cursor.last ≡ false
-    → ReplayEffect expected (λ g p. units g k p) a (place mid input cursor) → ImpreciseFastSteps n mid new
+    → ReplayEffect expected (λ g p. units g k p) a (place mid input cursor) → ImprecisePassingSteps true n mid new
     → ReplayEffect expected (λ g p. units g (k + n) p) a (place new input (cursor_after cursor n))
 ReplayEffect-fast expected zero k a mid new input cursor going one same =
     subst (λ (w : ImpreciseState). ReplayEffect expected (λ g p. units g (k + 0) p) a (place w input cursor)) (sym same)
@@ -102,11 +145,11 @@ ReplayEffect-fast expected (suc n) k a mid new input cursor going one rushed =
 pub ReplayEffect-any : (expected : List ℕ) (n k : ℕ) (a : Place) (mid new : ImpreciseState) (input : List ℕ)
     (cursor : Cursor)
     → (is_over cursor.last ≡ true → n ≡ 0)
-    → ReplayEffect expected (λ g p. units g k p) a (place mid input cursor) → ImpreciseFastSteps n mid new
+    → ReplayEffect expected (λ g p. units g k p) a (place mid input cursor) → ImprecisePassingSteps true n mid new
     → ReplayEffect expected (λ g p. units g (k + n) p) a (place new input (cursor_after cursor n))
 ReplayEffect-any expected n k a mid new input cursor none one rushed = by (is_over cursor.last) refl
   where
-    none_made : (i : ℕ) → i ≡ 0 → ImpreciseFastSteps i mid new
+    none_made : (i : ℕ) → i ≡ 0 → ImprecisePassingSteps true i mid new
         → ReplayEffect expected (λ g p. units g (k + i) p) a (place new input (cursor_after cursor i))
     none_made zero e same =
         subst (λ (w : ImpreciseState). ReplayEffect expected (λ g p. units g (k + 0) p) a (place w input cursor))

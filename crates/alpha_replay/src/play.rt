@@ -1,7 +1,7 @@
 //! The items of a journal, played on the machine.
 
 ghost use Rattle.std.specs.Prelude.{◌≡◌, ◌≤◌, true, length, IfSome, IfNone, IfOk, IfErr};
-ghost use Rattle.alpha_imprecise.specs.ImpreciseFastSteps.{ImpreciseFastSteps};
+ghost use Rattle.alpha_imprecise.specs.ImpreciseFastSteps.{ImprecisePassingSteps};
 ghost use Rattle.alpha_seq.specs.StepLabel.{is_over};
 ghost use Rattle.alpha_replay.specs.Journal.{most_items};
 ghost use Rattle.alpha_replay.specs.Listed.{move as moved, units as units_made, item as item_made};
@@ -19,7 +19,7 @@ use alpha_seq::Event;
 /// How the last step went, and what was seen of the output.
 #[derive(Clone, Copy, Debug)]
 pub(crate) struct Cursor {
-    /// How the last step went.
+    /// How the last step went, `Went` too where it passed a barrier in a row of steps: neither ends the run.
     pub(crate) last: Event,
     /// What was seen of the output.
     pub(crate) seen: Compared,
@@ -99,19 +99,19 @@ fn make_units(
     Some(stand)
 }
 
-// Makes such steps as long as each only goes on, so many at most, and answers how many it made. They put nothing.
-// It may stop early: what the next step does is what `make_move` says.
+// Makes such steps as long as each only goes on or passes a barrier that is no PAL call, so many at most, and answers
+// how many it made. They put nothing. It may stop early: what the next step does is what `make_move` says.
 #[inline(always)]
 fn run_fast(wild: &mut Wild, cursor: &mut Cursor, units: u32) -> u32
     ensures most { result ≤ units }
-    ensures went { ImpreciseFastSteps result wild.old wild.new }
+    ensures went { ImprecisePassingSteps true result wild.old wild.new }
     ensures stand { cursor.new ≡ cursor_after cursor.old result }
     ensures over { is_over cursor.old.last ≡ true → result ≡ 0 }
 {
     if cursor.last.is_over() {
         return 0;
     }
-    let made = wild.run_fast(u64::from(units)) as u32;
+    let made = wild.run_on(u64::from(units), true) as u32;
     if made != 0 {
         cursor.last = Event::Went;
     }
