@@ -8,12 +8,13 @@ from collections import namedtuple
 from . import drawn
 from .calls import DONE, Device, call_of, pieces_of, told, words_of
 from .data import Ahead
-from .reference import NONE, Late, parts_of, program_of, some
+from .places import least_in
+from .reference import CONDITIONS, NONE, Late, broken_in, parts_of, program_of, some
 from .replies import PAST, readings
 from .translate import record
 
 MOST, MOST_WORDS, CHOICES, OTHER = 150, 400, bytes(range(1, 65)), bytes(range(2, 66))
-SPENT, SHELF, MEMORY = ("StepsSpent",), ("ShelfFault",), ("NoMemory",)
+SPENT, SHELF, MEMORY, REFUSED = ("StepsSpent",), ("ShelfFault",), ("NoMemory",), "NotRestartable"
 # Of an opcode that no instruction has.
 NO_WORD = 1 << 26
 Case = namedtuple("Case", "kind whole how steps watch seed given words answered")
@@ -39,6 +40,17 @@ def seeded(d, seed):
     return Ahead(word)
 
 
+def refusal(trigger, at, condition):
+    """The status of a check that refuses code by this place."""
+    return REFUSED, record(trigger=trigger, at=at, condition=(CONDITIONS[condition - 1],))
+
+
+def verdict(words):
+    """The status of a check of this code."""
+    least = least_in(broken_in(words))
+    return refusal(*least) if least else DONE
+
+
 def steps_to_end(whole, how, given):
     """How many steps the precise run makes to its end, or None where these are many."""
     late = Late(whole, how, given)
@@ -53,14 +65,14 @@ class Runs:
     name, about = "asked runs", "`runs` of calls of the program by words with options, and with something else"
     counts = {"sample": 45, "whole": 720}
     is_quick = False
-    KINDS = ("run", "seed", "forced", "choices", "forced choices", "dis", "check", "trial")
+    KINDS = ("run", "seed", "forced", "choices", "forced choices", "dis", "check", "trial", "asm")
     # What is otherwise: methods of `Held`. Each gives the call and whether the clause holds of it, or None where that
     # isn't known or there is nothing of the kind.
-    WAYS = ("as_it_was", "told", "ended_otherwise", "drawn_otherwise", "denied", "refused", "short_of_memory",
-            "failed_input", "failed_sink", "too_large", "more_output", "fewer_notes", "output_fault", "notes_fault",
-            "another_file", "bad_image", "told_otherwise", "read_twice", "unaccepted", "more_taken", "fewer_taken",
-            "cut", "fewer_steps", "just_the_steps", "watched", "another_seed", "other_choices", "no_choices",
-            "choices_first")
+    WAYS = ("as_it_was", "told", "ended_otherwise", "drawn_otherwise", "denied", "refused", "accepted",
+            "broken_elsewhere", "short_of_memory", "failed_input", "failed_sink", "too_large", "more_output",
+            "fewer_notes", "output_fault", "notes_fault", "another_file", "bad_image", "told_otherwise", "read_twice",
+            "unaccepted", "more_taken", "fewer_taken", "cut", "fewer_steps", "just_the_steps", "watched",
+            "another_seed", "other_choices", "no_choices", "choices_first")
 
     def cases(self, chooser, count, asked):
         for n in range(count):
@@ -80,8 +92,8 @@ class Runs:
         case = case._replace(**changed)
         if case.kind in ("dis", "check"):
             return case.kind, "FILE"
-        if case.kind == "trial":
-            return "trial", "1"
+        if case.kind in ("trial", "asm"):
+            return ("trial", "1") if case.kind == "trial" else ("asm", "FILE", "OUT")
         words = ["run", "--complete", case.how, f"--steps={case.steps}"] + ["--watch"] * case.watch
         if case.kind != "run":
             words.append("--imprecise")
@@ -156,7 +168,8 @@ class Held:
     def status(self):
         """The status in the definitions' words, and the numbers that the program may end by."""
         if not self.is_run:
-            return DONE, (0, 1)
+            own = verdict(self.case.whole.words) if self.case.kind == "check" else DONE
+            return own, (3 if self.case.kind == "asm" else int(own != DONE),)
         if self.is_forced:
             last = self.late.run.at.last_event
             own = self.d("alpha_cmd.Commands.Imprecise.imprecise_status")(
@@ -188,8 +201,12 @@ class Held:
         return self.with_(not self.is_run and self.case.kind != "dis", **changed)
 
     def reads(self, **changed):
-        """Something that the bytes of the file show."""
-        return self.with_(self.case.kind == "trial", **changed)
+        """Something that the bytes of the file show. Of a check that refuses them nothing is said then."""
+        return self.with_(self.case.kind in ("trial", "asm") or self.own[0] == REFUSED, **changed)
+
+    def ends(self, **changed):
+        """Something by which no command here ends but `asm`, of which nothing is said."""
+        return self.with_(self.case.kind == "asm", **changed)
 
     def as_it_was(self):
         return self.made, True
@@ -198,30 +215,44 @@ class Held:
         return self.with_(True, is_told=True)
 
     def ended_otherwise(self):
-        return self.shows(status=DONE if self.own == SPENT else SPENT)
+        return self.ends(status=DONE if self.own == SPENT else SPENT)
 
     def drawn_otherwise(self):
-        """Of a run that isn't forced the number of words is free."""
-        return self.with_(not self.is_forced, status=("Done", 7777)) if self.is_run and self.own[0] == "Done" else None
+        """Of a run that isn't forced the number of words is free, and nothing else has one."""
+        if self.own[0] != "Done":
+            return None
+        return self.with_(self.is_run and not self.is_forced or self.case.kind == "asm", status=("Done", 7777))
 
     def denied(self):
         """A status that no end has."""
-        return self.with_(self.case.kind in ("check", "trial"), status=SHELF)
+        return self.ends(status=SHELF)
 
     def refused(self):
-        return self.with_(self.denied()[1], status=("NotRestartable", 0))
+        """By a place where no trigger stands."""
+        return self.ends(status=refusal(0, 0, 1))
+
+    def accepted(self):
+        """Code of which a place is broken."""
+        return self.with_(False, status=DONE) if self.own[0] == REFUSED else None
+
+    def broken_elsewhere(self):
+        """Refused by a place that is broken, and not the least."""
+        if self.own[0] != REFUSED:
+            return None
+        other = min((one for one in broken_in(self.case.whole.words) if refusal(*one) != self.own), default=None)
+        return other and self.with_(False, status=refusal(*other))
 
     def short_of_memory(self):
         return self.with_(True, status=MEMORY, out=self.made.out + b"x")
 
     def failed_input(self):
-        return self.with_(self.case.kind != "dis", status=("InputFault",))
+        return self.with_(self.is_run or self.case.kind == "asm", status=("InputFault",))
 
     def failed_sink(self):
         return self.with_(True, status=("SinkFault",))
 
     def too_large(self):
-        return self.with_(self.denied()[1], status=("TooLarge", 1_048_576))
+        return self.ends(status=("TooLarge", 1_048_576))
 
     def more_output(self):
         return self.shows(out=self.made.out + b"x")
@@ -256,7 +287,9 @@ class Held:
         """Bytes of an image that isn't accepted; what another machine makes of it isn't known here."""
         if self.is_forced or self.case.kind == "run":
             return None
-        return self.shows(replies=pieces_of(b"FILE", (tuple(self.other.spelled()), ())) + self.made.replies[2:])
+        is_same = self.case.kind == "check" and self.own == verdict(self.other.words)
+        replies = pieces_of(b"FILE", (tuple(self.other.spelled()), ())) + self.made.replies[2:]
+        return self.with_(is_same or self.case.kind in ("trial", "asm"), replies=replies)
 
     def no_choices(self):
         return self.with_(False, replies=self.made.replies[:2]) if self.has_choices else None

@@ -6,10 +6,13 @@ import re
 
 from . import drawn
 from .reference import CONDITIONS, broken_in, image, table
+from .translate import record
 from .words import rows
 
 VERDICT = re.compile(rb"broken trigger ([0-9a-f]{16}) at ([0-9a-f]{16}) condition C(\d)\n$")
 LONGEST = 70
+# How many broken places are held against the least.
+MOST_PLACES = 6
 
 
 def words_of(text):
@@ -79,6 +82,11 @@ class Places:
             return f"{listed(words)}: the least is {least_in(given)}, and {least} is wanted"
         if d("alpha_shadow.Broken.IsAccepted")(words) != (least is None):
             return f"{listed(words)}: accepted is {least is not None}"
+        is_least = d("alpha_shadow.Least.IsLeastBroken")
+        for trigger, at, n in sorted(given, key=lambda one: (one[1], one[0], one[2]))[:MOST_PLACES]:
+            one = record(trigger=trigger, at=at, condition=(CONDITIONS[n - 1],))
+            if is_least(words, one) != ((trigger, at, n) == least):
+                return f"{listed(words)}: {(trigger, at, n)} is the least, or isn't, and {least} is wanted"
         return ""
 
 

@@ -9,7 +9,6 @@ use Rattle.alpha_io.proofs.FilePieces.{IsReadWhole-unique, one_read}
 use Rattle.alpha_image.specs.Parts.{Parts, IsImage, image_spelling}
 use Rattle.alpha_image.specs.ImageFault.{first_fault}
 use Rattle.alpha_image.proofs.Spelled.{image_spelling-injective, first_fault-image_spelling}
-use Rattle.alpha_shadow.specs.Broken.{IsAccepted}
 use Rattle.alpha_request.specs.declared.request.ImageCommand.{ImageCommand}
 use Rattle.alpha_request.specs.declared.request.ImageCommand.TheVariants as images
 use Rattle.alpha_request.specs.Command.{Command, of_image, make, link, replay, record_run, run, imprecise, trial}
@@ -65,14 +64,13 @@ first_taken old new middle rest name bytes image status read good whole behind w
     spelling_taken bytes image status good
     (one_read old new middle name bytes (image_spelling image) [] rest read whole (append-nil new ∙ behind)).0 why
 
--- what was read is this image, so where this one is accepted that one is
-pub read_accepted : (old new : List Reply) (name : List ℕ) (found image : Parts)
+-- what was read is this image
+pub same_image_read : (old new : List Reply) (name : List ℕ) (found image : Parts)
     → IsImage found × IsReadWhole old new name (image_spelling found)
-    → IsImage image → IsReadWhole old new name (image_spelling image) → IsAccepted image.words → IsAccepted found.words
-read_accepted old new name found image read good whole accepted =
-    subst (λ (p : Parts). IsAccepted p.words)
-    (image_spelling-injective image found good read.0
-    (IsReadWhole-unique old new name (image_spelling image) (image_spelling found) whole read.1)) accepted
+    → IsImage image → IsReadWhole old new name (image_spelling image) → found ≡ image
+same_image_read old new name found image read good whole =
+    image_spelling-injective found image read.0 good
+    (IsReadWhole-unique old new name (image_spelling found) (image_spelling image) read.1 whole)
 
 -- where a seed gives the words nothing but the image is read
 pub seeded_read : (old new : List Reply) (choices : Origin) (name : List ℕ) (plan : Plan) (n : ℕ) → choices ≡ seed n
@@ -122,16 +120,17 @@ on_the_way status (inl e) = inl e
 on_the_way status (inr e) = inr (inr e)
 
 -- by what is asked of an image
-pub EndsOf-fails_always : (command : ImageCommand) (status : Status) → FailsAlways status → EndsOf command status
-EndsOf-fails_always images.Check status fails = tt
-EndsOf-fails_always images.Dis status fails = inr fails
-EndsOf-fails_always images.Debug status fails = inr (on_the_way status fails)
+pub EndsOf-fails_always : (command : ImageCommand) (image : Parts) (status : Status) → FailsAlways status
+    → EndsOf command image status
+EndsOf-fails_always images.Check image status fails = inr (inr fails)
+EndsOf-fails_always images.Dis image status fails = inr fails
+EndsOf-fails_always images.Debug image status fails = inr (on_the_way status fails)
 
 -- a command that failed so
 pub EndsAsRun-fails_always : (command : Command) (status : Status) (s : ShelfChange) → FailsAlways status
     → EndsAsRun command status s
 EndsAsRun-fails_always (of_image command name) status s fails =
-    λ image good read. EndsOf-fails_always command status fails
+    λ image good read. EndsOf-fails_always command image status fails
 EndsAsRun-fails_always (run options name) status s fails = λ image good has read. inr (on_the_way status fails)
 EndsAsRun-fails_always (imprecise options choices force name) status s fails =
     λ plan accepted read. inr (on_the_way status fails)
@@ -140,7 +139,7 @@ EndsAsRun-fails_always (link entry made names) status s fails = tt
 EndsAsRun-fails_always (replay name journal) status s fails = λ image listed read. inr fails
 EndsAsRun-fails_always (record_run options choices force name made) status s fails =
     λ plan middle replies accepted read behind. inl fails
-EndsAsRun-fails_always (trial blocks) status s fails = tt
+EndsAsRun-fails_always (trial blocks) status s fails = inr fails
 
 -- and a sink that fails last leaves what was decided so
 pub EndsAsRun-sink_fault_last : (command : Command) (status decided : Status) (s : ShelfChange)

@@ -7,17 +7,20 @@ use Rattle.alpha_io.specs.ShelfChange.{ShelfChange}
 use Rattle.alpha_io.specs.SinkChange.{SinkChange, Puts}
 use Rattle.alpha_dis.specs.Listing.{listing}
 use Rattle.alpha_image.specs.Parts.{Parts, IsImage, image_spelling}
+use Rattle.alpha_shadow.specs.declared.broken.Broken.{Broken}
 use Rattle.alpha_shadow.specs.Broken.{IsAccepted}
+use Rattle.alpha_shadow.specs.Least.{IsLeastBroken}
 use Rattle.alpha_request.specs.declared.request.ImageCommand.{ImageCommand}
 use Rattle.alpha_request.specs.declared.request.ImageCommand.TheVariants as images
-use Rattle.alpha_request.specs.Command.{Command, of_image, replay, record_run, run, imprecise}
+use Rattle.alpha_request.specs.Command.{Command, of_image, replay, record_run, run, imprecise, trial}
 use Rattle.alpha_request.specs.Origin.{Origin}
 use Rattle.alpha_request.specs.declared.options.RunOptions.{RunOptions}
 use Rattle.alpha_seq.specs.Run.{output, notes}
 use Rattle.alpha_seq.specs.Devices.{Drawn}
 use Rattle.alpha_cmd.specs.declared.decision.Decision.{Decision}
 use Rattle.alpha_cmd.specs.declared.status.Status.{Status}
-use Rattle.alpha_cmd.specs.declared.status.Status.TheVariants.{ShelfFault, InputFault, SinkFault, NoMemory, JournalFull}
+use Rattle.alpha_cmd.specs.declared.status.Status.TheVariants.{Done, NotRestartable, ShelfFault, InputFault, SinkFault}
+use Rattle.alpha_cmd.specs.declared.status.Status.TheVariants.{NoMemory, JournalFull}
 use Rattle.alpha_cmd.specs.Status.{class_of, done, ended}
 use Rattle.alpha_cmd.specs.Asks.{AsksFor}
 use Rattle.alpha_cmd.specs.Call.{Call}
@@ -97,20 +100,30 @@ EndsWhereRecord force choices file out status s =
     (plan : Plan) (middle replies : List Reply) → (force ≡ false → IsAccepted plan.image.words)
     → IsPlanRead s.past middle choices file plan → s.history ≡ middle ++ replies → EndsRecord force out replies status
 
--- how it ends where the bytes spell an image
-abbrev pub EndsOf : ImageCommand → Status → Type 0
-EndsOf images.Check status = Unit {0}
-EndsOf images.Dis status = IsDoneOrFails status
-EndsOf images.Debug status = sessions.IsEndStatus status ⊎ FailsOnTheWay status
+-- A check is done of an image that is accepted, and refuses another by its least broken place, but where memory ran out
+-- or a sink failed.
+abbrev pub EndsCheck : Parts → Status → Type 0
+EndsCheck image status =
+    ((status ≡ Done 0) × IsAccepted image.words)
+    ⊎ (((b : Broken) × (status ≡ NotRestartable b) × IsLeastBroken image.words b)
+    ⊎ ((status ≡ NoMemory) ⊎ (status ≡ SinkFault)))
+
+-- how it ends where the bytes spell this image
+abbrev pub EndsOf : ImageCommand → Parts → Status → Type 0
+EndsOf images.Check image status = EndsCheck image status
+EndsOf images.Dis image status = IsDoneOrFails status
+EndsOf images.Debug image status = sessions.IsEndStatus status ⊎ FailsOnTheWay status
 
 -- A row a command: the imprecise machine runs an image that is accepted, and each where the verdict is passed over.
 abbrev pub EndsAsRun : Command → Status → ShelfChange → Type 0
 EndsAsRun (of_image what file) status s =
-    (image : Parts) → IsImage image → IsReadWhole s.past s.history file (image_spelling image) → EndsOf what status
+    (image : Parts) → IsImage image → IsReadWhole s.past s.history file (image_spelling image)
+    → EndsOf what image status
 EndsAsRun (replay file journal) status s = EndsWhereReplay file journal status s
 EndsAsRun (run options file) status s = EndsWhere (λ image. Unit {0}) file status s
 EndsAsRun (imprecise options choices force file) status s = EndsWherePlan force choices file status s
 EndsAsRun (record_run options choices force file out) status s = EndsWhereRecord force choices file out status s
+EndsAsRun (trial blocks) status s = IsDoneOrFails status
 EndsAsRun _ status s = Unit {0}
 
 -- The first says what is shown where it has ended, and the second when it has.

@@ -66,7 +66,7 @@ fn on_image<H: Shelf, S: Source, K: Sink, N: Sink>(
     ensures ran { WhereEnded result (λ decision. DecidesOf command image decision
         (drawn S.Source devices.old.input devices.new.input)
         (sink_change K.Sink devices.old.out devices.new.out) (sink_change N.Sink devices.old.notes devices.new.notes)) }
-    ensures ends { EndsOf command (status_in result) }
+    ensures ends { EndsOf command image (status_in result) }
     ensures accepted { command ≡ asked.Check → status_in result ≡ Status.Done 0 → IsAccepted image.words }
     ensures does { CommandEffect H.Shelf S.Source K.Sink N.Sink (images.on command image) result
         devices.old devices.new }

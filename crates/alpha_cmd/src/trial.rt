@@ -3,6 +3,8 @@
 ghost use Rattle.std.specs.Prelude.{◌<◌, ◌≤◌};
 ghost use Rattle.alpha_cmd.specs.Commands.Trial as trials;
 ghost use Rattle.alpha_cmd.specs.CommandEffect.{CommandEffect};
+ghost use Rattle.alpha_cmd.specs.Ends.{status_in};
+ghost use Rattle.alpha_cmd.specs.ShowsDone.{IsDoneOrFails};
 
 use crate::Status;
 use crate::decision::Decision;
@@ -20,7 +22,8 @@ pub(crate) fn trial<H: Shelf, S: Source, K: Sink, N: Sink>(
 ) -> Result<Decision, Failed>
     requires some { 0 < blocks }
     requires bound { blocks ≤ 20000 }
-    ensures { CommandEffect H.Shelf S.Source K.Sink N.Sink (trials.form blocks) result devices.old devices.new }
+    ensures does { CommandEffect H.Shelf S.Source K.Sink N.Sink (trials.form blocks) result devices.old devices.new }
+    ensures ends { IsDoneOrFails (status_in result) }
 {
     match alpha_trial::trial(alloc, blocks, &mut devices.out) {
         Ok(()) => Ok(Decision::of_status(Status::Done(0))),

@@ -6,6 +6,7 @@ ghost use Rattle.alpha_request.specs.declared.request.ImageCommand.TheVariants a
 ghost use Rattle.alpha_cmd.specs.AnswerBy.{AnswerBy, World};
 ghost use Rattle.alpha_cmd.specs.Decision.{answer_in};
 ghost use Rattle.alpha_cmd.specs.OfImage as images;
+ghost use Rattle.alpha_cmd.specs.RunsAsked.{EndsCheck};
 
 use crate::decision::Decision;
 use crate::{Status, image};
@@ -14,6 +15,7 @@ use alpha_image::Image;
 /// Judges an image.
 pub(crate) fn check_image(image: &Image) -> Decision
     ensures accepted { result.status ≡ Status.Done 0 → IsAccepted image.now.words }
+    ensures ends { EndsCheck image.now result.status }
     ensures answer { (w : World)
         → AnswerBy (images.on asked.Check image.now).steps w (answer_in w.input result) }
 {

@@ -30,7 +30,7 @@ pub(crate) fn session<H: Shelf, S: Source, K: Sink, N: Sink>(
     ensures ran { WhereEnded result (λ decision. DecidesSession image decision
         (drawn S.Source devices.old.input devices.new.input)
         (sink_change K.Sink devices.old.out devices.new.out) (sink_change N.Sink devices.old.notes devices.new.notes)) }
-    ensures ends { EndsOf asked.Debug (status_in result) }
+    ensures ends { EndsOf asked.Debug image (status_in result) }
     ensures does { CommandEffect H.Shelf S.Source K.Sink N.Sink
         (images.on asked.Debug image) result devices.old devices.new }
     ensures script { LeavesOfScript (drawn S.Source devices.old.input devices.new.input) }

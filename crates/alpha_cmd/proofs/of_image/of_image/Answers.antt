@@ -1,13 +1,16 @@
 use Rattle.std.proofs.Common.{refl, subst, inl}
+use Rattle.alpha_image.specs.Parts.{Parts, image_spelling}
 use Rattle.alpha_io.specs.Files.{HasFile}
+use Rattle.alpha_io.specs.History.{IsReadWhole}
 use Rattle.alpha_io.specs.SinkChange.{sink_change}
 use Rattle.alpha_seq.specs.Devices.{drawn}
 use Rattle.alpha_cmd.specs.Image.{ImageOf}
 use Rattle.alpha_cmd.specs.Form.{needs_by}
 use Rattle.alpha_cmd.specs.OfImage.{Answers, kind}
-use Rattle.alpha_cmd.specs.RunsAsked.{DecidesOf}
+use Rattle.alpha_cmd.specs.Ends.{status_in}
+use Rattle.alpha_cmd.specs.RunsAsked.{DecidesOf, EndsOf}
 use Rattle.alpha_cmd.proofs.EffectsAfterRead.{does_after, does_stop}
-use Rattle.alpha_cmd.proofs.EndsWhere.{EndsOf-fails_always, memory_said}
+use Rattle.alpha_cmd.proofs.EndsWhere.{EndsOf-fails_always, memory_said, same_image_read}
 use Rattle.alpha_cmd.proofs.EndStatuses.{HasEnded-not_stopped}
 use Rattle.alpha_cmd.proofs.RunsOnReplies.{IfOk-ReadsImage}
 use Rattle.alpha_cmd.proofs.StageLaws.{SaysStop-not_done, image_plain}
@@ -68,9 +71,16 @@ returns-in-Err-clause-ran g c = λ ends.
     c.in-Err.ensures.stage.refused ends)
 
 pub returns-in-Ok-clause-ends : goal.returns-in-Ok-clause-ends
-returns-in-Ok-clause-ends g c = λ image good read. c.on_image.ensures.ends
+returns-in-Ok-clause-ends g c = λ image good read.
+    let old = g.H.Shelf.replies c.args.devices.now.shelf in
+    let new = g.H.Shelf.replies c.on_image.new.devices.shelf in
+    let found : IsReadWhole old new c.args.file.now (image_spelling c.in-Ok.image) =
+    rw c.on_image.ensures.shelf c.in-Ok.ensures.read.1 in
+    subst (λ (i : Parts). EndsOf c.args.command i (status_in c.on_image.result))
+    (same_image_read old new c.args.file.now c.in-Ok.image image (c.in-Ok.ensures.read.0, found) good read)
+    c.on_image.ensures.ends
 
 pub returns-in-Err-clause-ends : goal.returns-in-Err-clause-ends
 returns-in-Err-clause-ends g c = λ image good read.
-    EndsOf-fails_always c.args.command c.of_stop.result.status
+    EndsOf-fails_always c.args.command image c.of_stop.result.status
     (inl (memory_said c.in-Err.stop c.of_stop.result c.of_stop.ensures (c.in-Err.ensures.whole image good read)))

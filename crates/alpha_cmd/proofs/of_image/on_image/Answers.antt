@@ -19,7 +19,7 @@ pub returns-in-Debug-clause-ran : goal.returns-in-Debug-clause-ran
 returns-in-Debug-clause-ran g c = rw c.in-Debug.is c.session.ensures.ran
 
 pub returns-in-Check-clause-ends : goal.returns-in-Check-clause-ends
-returns-in-Check-clause-ends g c = rw c.in-Check.is tt
+returns-in-Check-clause-ends g c = rw c.in-Check.is c.check_image.ensures.ends
 
 pub returns-in-Dis-clause-ends : goal.returns-in-Dis-clause-ends
 returns-in-Dis-clause-ends g c = rw c.in-Dis.is c.list_image.ensures.ends

@@ -81,4 +81,4 @@ pub returns-in-Record-clause-ends : goal.returns-in-Record-clause-ends
 returns-in-Record-clause-ends g c = rw c.in-Record.is c.record.ensures.ends
 
 pub returns-in-Trial-clause-ends : goal.returns-in-Trial-clause-ends
-returns-in-Trial-clause-ends g c = rw c.in-Trial.is tt
+returns-in-Trial-clause-ends g c = rw c.in-Trial.is c.trial.ensures.ends
