@@ -4,14 +4,17 @@ import os
 import shutil
 import struct
 import subprocess
+import sys
 
 from parts import broken, program, written
-from .helpers import ASKED, Lacking, companion, data, needs_program, read, want, write
+from .helpers import ASKED, HERE, Lacking, companion, data, needs_program, read, want, write
 
 AWAY = 0x120000000
-# `addq/v $1,$2,$1`, `trapb`, `ret`, a word of floating point, `addq/v $1,$2,$3`, `nop`, and `ldq $4,0($3)`.
+# `addq/v $1,$2,$1`, `trapb`, `ret`, a word of floating point, `addq/v $1,$2,$3`, `nop`, `ldq $4,0($3)`, and
+# `lda $4,0($31)`.
 LOST, TRAPB, RET, FLOAT, SUM, NOP, LOAD = (0x40220C01, 0x63FF0000, 0x6BFA8001, 0x5FFF040B, 0x40220C03, 0x47FF041F,
                                            0xA4830000)
+NUMBER = 0x209F0000
 OBJECT = """\t.set noat
 \t.set noreorder
 \t.text
@@ -126,3 +129,19 @@ def test_many_functions_are_judged_by_few_calls(folder):
     want(alone[(SUM, NOP)], (0x10000, 0x10008, 8), "the end of a shadow's row")
     # One for the batch, one behind each of its two broken rows, and one for the row that ends within a shadow.
     want(len(calls), 4, "calls")
+
+
+@needs_program
+def test_a_file_of_six_thousand_functions_is_judged_within_30_seconds(folder):
+    """Of the processor's time, the program's included. No two have the same words, and each tenth one is broken."""
+    path, count, most = os.path.join(folder, "a.elf"), 6004, 30
+    written_elf(path, [(f"f{n}", [NUMBER | n, SUM, NOP, LOST if n % 10 == 0 else NOP, TRAPB, RET])
+                       for n in range(count)])
+    asked = subprocess.Popen([sys.executable, os.path.join(HERE, "elf2image"), "--functions", path],
+                             stdout=subprocess.PIPE, env=os.environ | {"ALPHA": ASKED})
+    out = asked.stdout.read().decode()
+    _, status, used = os.wait4(asked.pid, 0)
+    asked.returncode = os.waitstatus_to_exitcode(status)
+    want((asked.returncode, out.splitlines()[-1]),
+         (3, "6004 symbols: 5403 accepted, 601 broken, 0 without a verdict; no /V word in 0"), "the verdicts")
+    want(used.ru_utime + used.ru_stime < most, True, f"{used.ru_utime + used.ru_stime:.1f} seconds")
