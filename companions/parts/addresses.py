@@ -121,16 +121,23 @@ class Linked:
         def read(place, where, count):
             if where[0] != "pointer" or not is_only:
                 return None
-            found = [self.place(pointers[0] + number) for number in self.numbers(pointers[0] + where[1], count)]
-            return found if len(found) == count and all(
-                other is not None and self.are_of_one(place, other) for other in found) else None
+            found = []
+            for number in self.numbers(pointers[0] + where[1]):
+                other = self.place(pointers[0] + number)
+                # Behind the entries that are taken the table ends where its numbers lead out of a known function.
+                if other is None or not self.are_of_one(place, other) or (
+                        len(found) >= count and self.function_of(place) is None):
+                    break
+                found.append(other)
+            return code.leads(found[:count], found[count:]) if len(found) >= count else None
         return read
 
-    def numbers(self, address, count):
-        """Numbers of 4 bytes that stand in the data from an address on."""
+    def numbers(self, address):
+        """The numbers of 4 bytes that stand in the data from an address on."""
         for base, content in self.segments:
-            if base <= address and address + 4 * count <= base + len(content):
-                return struct.unpack_from(f"<{count}i", content, address - base)
+            if base <= address < base + len(content):
+                inside = memoryview(content)[address - base:]
+                return (number for number, in struct.iter_unpack("<i", inside[:len(inside) // 4 * 4]))
         return ()
 
     def function_of(self, place):

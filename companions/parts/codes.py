@@ -1,4 +1,5 @@
 """The code of a text, and that of an image, as `flow` follows it."""
+import itertools
 import re
 from bisect import bisect_right
 
@@ -104,8 +105,7 @@ class Text:
     def numbers(self):
         """The places of which an address stands in the code or the data as a number."""
         linked = addresses.Linked(self.code.steps, self.after, self.base, self.segments, [])
-        return (linked.taken(linked.pointers(self.code.roots))
-                | {place for places in self.code.tables.values() for place in places})
+        return linked.taken(linked.pointers(self.code.roots)) | self.code.in_tables()
 
     def switched(self, statement, section, before):
         if statement.name in SECTIONS:
@@ -200,16 +200,16 @@ class Text:
             outside |= every - called
         linked = addresses.Linked(found, self.after, 0, [], functions)
 
-        def read(place, where, count):
-            used[place] = where[1]
-            names = named.get(where[1], [])[:count] if where[0] == "symbol" else []
-            places = [here.get(name) for name in names]
-            return places if len(places) == count and all(
-                other is not None and other not in starts and linked.are_of_one(place, other) for other in places
-            ) else None
-
         def reader(code):
-            return read if keeps_pointer(code) else lambda *_: None
+            keeps = keeps_pointer(code)
+
+            def read(place, where, count):
+                used[place] = where[1]
+                listed = [here.get(name) for name in named.get(where[1], [])] if where[0] == "symbol" and keeps else []
+                places = list(itertools.takewhile(lambda other: other is not None and other not in starts
+                                                  and linked.are_of_one(place, other), listed))
+                return code.leads(places[:count], places[count:]) if len(places) >= count else None
+            return read
 
         def followed(taken, tables):
             return with_tables(lambda tables: flow.Code(found, targets, starts | taken | outside, starts, outside,
@@ -282,13 +282,25 @@ def program(linked, targets, entries, taken, symbols):
 
 def with_tables(made, reader, tables):
     """The code with the tables that its jumps go by, beginning with some that are to be shown. A jump may be reached
-    only by another one's table, so they are looked for until no more are found."""
-    code = made(tables)
+    only by another one's table, or go by what is kept over a call of its own function, so at first those that aren't
+    shown count as if they went nowhere. At the end they go anywhere, and all others are shown where each goes by its
+    table: then the first jump that went elsewhere would have been shown not to. What isn't shown any more, as others
+    are followed, counts as not shown for good."""
+    code, lost = made(tables), set()
+    waiting = {place: flow.Leads([], []) for place, step in enumerate(code.steps)
+               if step.insn.name == "jmp" and step.word is not None}
+    if waiting:
+        code = made(waiting | tables)
     for _ in range(MOST_ROUNDS):
-        tables = jumps.tables(code, reader(code))
-        if tables == code.tables:
+        shown = jumps.tables(code, reader(code))
+        lost.update(place for place, leads in code.tables.items() if leads.goes and place not in shown)
+        found = {place: leads for place, leads in shown.items() if place not in lost}
+        if waiting | found != code.tables:
+            code = made(waiting | found)
+        elif found == code.tables:
             return code
-        code = made(tables)
+        else:
+            waiting, code = {}, made(found)
     return made({})
 
 

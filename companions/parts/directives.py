@@ -29,7 +29,7 @@ def faults(old, new, pairs):
     for place in sorted(pairs):
         if sets_pointer(old, place) and old.code.steps[place][:3] != new.code.steps[pairs[place]][:3]:
             yield f"line {old.statement(place).line}: the global pointer is made from its own address, which is another"
-    if any(image - place != pairs[min(pairs)] - min(pairs) for place, image in pairs.items()):
+    if len({image - place for place, image in pairs.items()}) > 1:
         yield from moved(old, pairs)
     if old.is_whole:
         yield from entries(old, new, pairs)

@@ -4,6 +4,8 @@ A return is shown to go back behind a call where the register that it goes by ha
 entry, what a register had there: it was never set, or was kept in the stack and loaded from there. A store of which the
 flow doesn't show that it goes there counts as one elsewhere.
 """
+from collections import namedtuple
+
 from . import steps, table
 from .below import Below
 from .known import (LOWER, STACK, STALE, is_stack_pointer, kept_in, meet, note_stack_pointer, note_store, registers_in,
@@ -12,14 +14,17 @@ from .known import (LOWER, STACK, STALE, is_stack_pointer, kept_in, meet, note_s
 # What a function of the calling standard keeps.
 KEPT = steps.bits(*range(9, 16), steps.SP)
 EXIT = 1
+# Where a jump by a table leads: the places to which it goes, and those that stand in the table behind them, to which it
+# never goes. Compilers leave code there that nothing else leads to.
+Leads = namedtuple("Leads", "goes beyond")
 
 
 class Code:
     """Instructions by place, with the places to which they branch, None for one that isn't here.
 
     `roots` are the places that a name or the entry makes code, `functions` those of them where a function begins, and
-    `outside` those that code elsewhere may call, and `taken` those of which an address is made. `tables` has the places
-    to which a jump by a table goes, by its place. `strange` are those that are come to in a way that isn't seen, in the
+    `outside` those that code elsewhere may call, and `taken` those of which an address is made. `tables` has where
+    each jump by a table leads, by its place. `strange` are those that are come to in a way that isn't seen, in the
     midst of a function. `is_whole` says that nothing stands behind the last word.
     """
 
@@ -31,9 +36,15 @@ class Code:
         self.roots = set(roots) | {self.after[place] for place in range(len(found)) if self.links_back(place)} - {None}
         self.tables = tables or {}
         self.joined = self.roots | self.functions | {target for target in targets if target is not None}
-        self.joined.update(place for places in self.tables.values() for place in places)
+        self.joined |= self.in_tables()
+        # Where the flow goes on, as far as it is followed, and where it may really go; what it reaches by each.
         self.next = [self.onward(place) for place in range(len(found))]
+        self.goes = list(self.next)
+        for place, leads in self.tables.items():
+            self.goes[place] = leads.goes
         self.reached = self.reach(self.roots | self.functions, True)
+        self.come_to = self.reach(self.roots | self.functions, True, self.goes)
+        self.ways = [self.way(place) for place in range(len(found))]
         self.entries = self.entries_of()
         self.strange = self.strange_of()
         self.entries |= self.strange
@@ -68,7 +79,8 @@ class Code:
         if steps.is_conditional(step):
             return [behind, self.targets[place]]
         if name in table.JUMP and not steps.is_call(step):
-            return list(self.tables.get(place, [])) if name == "jmp" else []
+            leads = self.tables.get(place) if name == "jmp" else None
+            return [] if leads is None else leads.goes + leads.beyond
         if name == "callsys" and self.is_exit(place):
             return []
         return [behind]
@@ -85,15 +97,32 @@ class Code:
                 return False
         return False
 
-    def reach(self, starts, with_calls):
+    def in_tables(self):
+        """The places that stand in the tables of jumps."""
+        return {place for leads in self.tables.values() for place in leads.goes + leads.beyond}
+
+    def leads(self, goes, behind):
+        """Where a jump leads that goes to some places. Of those that stand behind them in its table only those count
+        to which nothing else leads."""
+        goes = sorted(set(goes))
+        return Leads(goes, sorted(set(behind) - self.come_to - set(goes)))
+
+    def way(self, place):
+        """The places here to which the flow goes on. Nobody comes to others than those to which it may really go from
+        where somebody comes to."""
+        found = set(self.next[place]) - self.come_to
+        return (found | set(self.goes[place]) if place in self.come_to else found) - {None}
+
+    def reach(self, starts, with_calls, ways=None):
         """The places that the flow reaches from some on."""
+        ways = self.next if ways is None else ways
         found, left = set(), [start for start in starts if start is not None]
         while left:
             place = left.pop()
             if place in found:
                 continue
             found.add(place)
-            left += [after for after in self.next[place] if after is not None]
+            left += [after for after in ways[place] if after is not None]
             if with_calls and self.targets[place] is not None:
                 left.append(self.targets[place])
         return found
@@ -213,9 +242,7 @@ class Returns:
             after = self.behind(place, states[place])
             if after is None:
                 continue
-            for other in self.code.next[place]:
-                if other is None:
-                    continue
+            for other in self.code.ways[place]:
                 known = states.get(other)
                 joined = after if known is None or known == after else meet(known, after)
                 if joined != known:

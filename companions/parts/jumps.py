@@ -11,16 +11,18 @@ from .below import Below
 
 POINTER = ("pointer", 0)
 MOST_ENTRIES, MOST_ROUNDS = 1 << 16, 64
+# The instructions whose results are numbers of 4 bytes with their sign, and those of shifts by so many bits at least.
 NARROW = {f"{name}{mode}" for name in ("addl", "subl", "s4addl", "s4subl", "s8addl", "s8subl", "mull")
-          for mode in ("", "/v")}
+          for mode in ("", "/v")} | {"cmpeq", "cmplt", "cmple", "extbl", "extwl", "ldbu", "ldwu", "sextb", "sextw"}
+NARROW_BY = {"sra": 32, "srl": 33}
 # The branches that show that what they test isn't 0, where they are taken, and where they aren't.
 TAKEN, PASSED = ("bne", "blbs"), ("beq", "blbc")
 FACTS = "facts"
 
 
 def tables(code, read):
-    """The places to which each reached jump by a table leads. `read` says of a table and a number of entries which
-    places they have, None where they don't all have one."""
+    """Where each reached jump by a table leads. `read` says of a table and a number of entries that, None where one of
+    them has no place."""
     places = [place for place in sorted(code.reached)
               if code.steps[place].insn.name == "jmp" and code.steps[place].word is not None]
     if not places:
@@ -30,7 +32,7 @@ def tables(code, read):
         where = values.table_of(place)
         leads = where and read(place, *where)
         if leads:
-            found[place] = sorted(set(leads))
+            found[place] = leads
     return found
 
 
@@ -44,14 +46,16 @@ class Values:
         self.terms, self.ids = [], {}
         self.before = self.ways_to(wanted)
         self.is_open = self.open_places()
-        self.joined, self.behind, self.at = set(), {}, {place: None for place in wanted}
+        # What has several values at places, and what among that has others than narrow ones.
+        self.joined, self.wide = set(), set()
+        self.behind, self.at = {}, {place: None for place in wanted}
         self.follow()
 
     def ways_to(self, wanted):
         """The places before each place that leads to one that is wanted; None among them where others come in."""
         before, code = {}, self.code
         for place in code.reached:
-            for other in set(code.next[place]) - {None}:
+            for other in code.ways[place]:
                 before.setdefault(other, []).append(place)
         found, left = {}, list(wanted)
         while left:
@@ -104,7 +108,7 @@ class Values:
         """Whether a row of places begins at one, which others than the one before it come to or go on from."""
         others = self.before[place]
         return len(others) != 1 or others[0] is None or sum(
-            other in self.before for other in set(self.code.next[others[0]])) > 1
+            other in self.before for other in self.code.ways[others[0]]) > 1
 
     def along(self, place, state, rows):
         """What is known behind a row of places, by the edges to others."""
@@ -132,15 +136,21 @@ class Values:
                 found[key] = frozenset.intersection(*(state[FACTS] for state in states))
             elif (place, key) not in self.joined and all(state.get(key) == value for state in states[1:]):
                 found[key] = value
-            else:
-                self.joined.add((place, key))
-                if not isinstance(key, tuple):
-                    found[key] = self.value("at", place, key)
+            elif all(key in state for state in states):
+                found[key] = self.join(place, key, [state[key] for state in states])
         return found
+
+    def join(self, place, key, values):
+        """The number of a value at a place that has several behind the places before it."""
+        self.joined.add((place, key))
+        if (place, key) not in self.wide and all(self.is_narrow(value) for value in values):
+            return self.value("narrow", place, key)
+        self.wide.add((place, key))
+        return self.value("at", place, key)
 
     def after(self, place, state):
         """What is known behind a place, on each way on that is looked at."""
-        step, onward = self.code.steps[place], set(self.code.next[place])
+        step, onward = self.code.steps[place], self.code.ways[place]
         found = dict(state)
         self.execute(place, step, state, found)
         for other in onward:
@@ -219,7 +229,7 @@ class Values:
                 return found[span]
             return self.value("ldl", place, second, steps.displacement_of(step)) if name == "ldl" else None
         if step.word >> 26 not in table.OPERATE:
-            return None
+            return self.value("narrow", place) if name in NARROW else None
         if step.word & steps.LITERAL:
             second = self.value("number", step.word >> 13 & 0xFF)
         zero = self.value("number", 0)
@@ -227,7 +237,10 @@ class Values:
             return second if first == zero else first
         if name in ("cmpule", "cmpult", "s4addq", "addq", "zapnot", "and") or name == "addl" and first == zero:
             return self.value(name, first, second)
-        return self.value("narrow", place) if name in NARROW else None
+        if name.startswith("cmov") and self.is_narrow(second) and self.is_narrow(state[step.word & 31]):
+            return self.value("narrow", place)
+        is_narrow = name in NARROW or step.word & steps.LITERAL and step.word >> 13 & 63 >= NARROW_BY.get(name, 64)
+        return self.value("narrow", place) if is_narrow else None
 
     def operand(self, state, register):
         return self.value("number", 0) if register == 31 else state[register]
@@ -284,6 +297,13 @@ class Values:
             found += [self.terms[one][1] for one in term[1:] if self.is_number(one)]
         return min(found, default=None)
 
+    def is_narrow(self, number):
+        """Whether a value is a number of 4 bytes with its sign."""
+        name, *rest = self.terms[number]
+        if name == "and":
+            return any(self.is_number(one) and self.terms[one][1] < 1 << 31 for one in rest)
+        return name in ("narrow", "ldl", "addl", "cmpule", "cmpult") or name == "number" and abs(rest[0]) < 1 << 31
+
     def is_number(self, one):
         return self.terms[one][0] == "number" and self.terms[one][1] >= 0
 
@@ -295,7 +315,7 @@ class Values:
         if not 0 <= most < 1 << 31:
             return None
         tested = fact[1]
-        is_whole = index == tested or index != self.core(index) or self.terms[index][0] in ("narrow", "ldl")
+        is_whole = index == tested or index != self.core(index) or self.is_narrow(index)
         return most if self.core(index) == self.core(tested) and is_whole else None
 
     def core(self, number):

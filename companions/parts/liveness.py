@@ -98,7 +98,7 @@ class Liveness:
 
     def out(self, place, before, at_return):
         """What is read behind an instruction, where it goes on within its function."""
-        step, onward = self.code.steps[place], self.code.next[place]
+        step, onward = self.code.steps[place], self.code.goes[place]
         if step.insn.name == "ret":
             return at_return(place, before) if place in self.back else steps.ALL
         if not onward:

@@ -132,9 +132,8 @@ class Same:
     def must_have(self):
         """The places of which the map must say an image: where others come in, and words that nothing reaches."""
         old = self.old
-        return old.roots | old.functions | old.outside | old.entries | {place for places in old.tables.values()
-                                                                        for place in places} | \
-            set(range(len(old.steps))) - old.reached
+        return (old.roots | old.functions | old.outside | old.entries | old.in_tables()
+                | set(range(len(old.steps))) - old.reached)
 
     def look_at(self, place, image):
         if self.is_equal(place, image):

@@ -1,6 +1,8 @@
 """same: where a jump by a table leads is shown by what was tested of its index, and nothing else is believed of it."""
+import os
+
 from parts import held, sameness
-from .helpers import want
+from .helpers import companion, read, want, write
 from .misleading import KEPT, LIVE, MULTIPLIED, RESULT, SCRATCH, function, outcome, scratch
 
 TEST = "\tcmpule $19,1,$2\n\tbeq $2,L3\n"
@@ -16,7 +18,19 @@ def switch(words, more=""):
     return function("f", f"\tmov $18,$28\n{MULTIPLIED}{words}{ENDS}") + more + ENTRIES
 
 
+def framed_switch(words):
+    """A function that calls itself between the test and the table, and has its part of the stack at the jump too."""
+    text = switch(f"{FRAMED}\tstq $26,8($30)\n{words}{TEST}\tbsr $26,f\n\tldq $19,0($30)\n{LOAD}{GO}")
+    return text.replace("\tret\n", "\tldq $26,8($30)\n\tlda $30,16($30)\n\tret\n")
+
+
 FRAMED = "\tlda $30,-16($30)\n\tstq $19,0($30)\n"
+AGAIN = "\tldq $19,0($30)\n\tlda $30,16($30)\n"
+# A test of the lower 4 bytes of an index.
+LOWER = "\tzapnot $19,15,$2\n" + TEST.replace("$19", "$2")
+NARROWED = "\tbeq $21,L5\n\taddl $19,$20,$19\n\tbr $31,L6\nL5:\tand $19,15,$19\nL6:"
+KEPT_NARROW = "\tlda $30,-16($30)\n" + NARROWED.replace("$19\n", "$19\n\tstq $19,0($30)\n") + AGAIN
+CHOSEN = "\taddl $31,$20,$20\n\tand $19,15,$19\n\tcmovne $21,$20,$19\n"
 LOOP = f"\tldah $1,T($29)!gprelhigh\n\tlda $1,T($1)!gprellow\n\tcmpule $19,1,$3\nL5:\tlda $20,-1($20)\n\tbgt $20,L5\n" \
     f"\tbeq $3,L3\n\ts4addq $19,$1,$1\n\tldl $2,0($1)\n"
 # What a compiler writes: the table's first two entries are all that may be gone to, so $28 is free.
@@ -35,6 +49,11 @@ SHOWN = [
     ("a division behind the test", switch(TEST.replace("\tbeq", f"{DIVIDED}\tbeq") + LOAD + GO)),
     ("a division that is called of the same file", switch(
         TEST + LOAD + "\tbsr $23,d\n" + GO, function("d", "\tsubq $24,$25,$27\n\tret $31,($23),1\n", True))),
+    ("an index of 4 bytes on each of two ways", switch(NARROWED + LOWER + LOAD + GO)),
+    ("an index of 4 bytes that two ways keep in the stack", switch(KEPT_NARROW + LOWER + LOAD + GO)),
+    ("an index that is chosen of two of 4 bytes", switch(CHOSEN + LOWER + LOAD + GO)),
+    ("an index that a shift makes narrow", switch("\tsra $19,32,$19\n" + LOWER + LOAD + GO)),
+    ("an index in the stack over a call of the function itself", framed_switch("")),
 ]
 # What looks alike, and lets the third entry through.
 WRONG = [
@@ -75,6 +94,14 @@ WRONG = [
     ("a global pointer that is moved on", switch(TEST + LOAD + "\tlda $29,4($29)\n" + GO)),
     ("an index that is scaled by 8", switch(TEST + LOAD.replace("s4addq", "s8addq") + GO)),
     ("a table that ends before", switch(TEST.replace(",1,", ",7,") + LOAD + GO)),
+    ("an index that is wide on one of two ways", switch(NARROWED.replace("addl", "addq") + LOWER + LOAD + GO)),
+    ("an index that one of two ways keeps in the stack wide", switch(
+        KEPT_NARROW.replace("addl", "addq") + LOWER + LOAD + GO)),
+    ("an index in the stack that one of two ways doesn't keep", switch(
+        KEPT_NARROW.replace("\tstq $19,0($30)\n", "", 1) + LOWER + LOAD + GO)),
+    ("an index that is chosen of a wide one and another", switch(CHOSEN.replace("addl", "addq") + LOWER + LOAD + GO)),
+    ("an index that a shift leaves wide", switch("\tsra $19,31,$19\n" + LOWER + LOAD + GO)),
+    ("an index in the stack that a call of the function itself changes", framed_switch("\tstq $20,16($30)\n")),
     ("a jump to the same table without a test", switch(
         TEST + LOAD + GO, function("g", LOAD + GO, True) + function("h", "\tbsr $26,g\n\tret\n"))),
 ]
@@ -90,6 +117,57 @@ def test_a_table_whose_index_is_not_tested_is_none(_):
     for what, old in WRONG:
         told = outcome(*scratch(old))
         want(("shown to do" in told, LIVE in told), (False, True), f"{what}: {told}")
+
+
+# Two jumps: the second one's test or distance stands before it, and code that only an entry behind those that the first
+# one takes leads to, or the second one, goes on to it past these.
+SECOND = TEST.replace("$19", "$20") + "L7:" + LOAD.replace("$19", "$20").replace("T", "U") + GO
+KEPT_DISTANCE = TEST.replace("$19", "$20") + "\tlda $30,-16($30)\n" + LOAD.replace("$19", "$20").replace("T", "U") + \
+    "\tstl $2,8($30)\nL7:\tldl $2,8($30)\n" + GO
+FIRST_TABLE, SECOND_TABLE = "\t.section .rodata\nT:\t.gprel32 L0\n\t.gprel32 L2\n", "U:\t.gprel32 L1\n\t.gprel32 L2\n"
+
+
+def two(second, more, first_behind="L6", second_behind="L4", last=SECOND_TABLE):
+    """A text of two jumps by tables with an entry behind those that each takes."""
+    return function("f", f"\tmov $18,$28\n{MULTIPLIED}{TEST}{LOAD}{GO}L0:{second}L6:{more}\tbr $31,L7\n{ENDS}") + \
+        f"{FIRST_TABLE}\t.gprel32 {first_behind}\n{last}\t.gprel32 {second_behind}\n"
+
+
+NEVER = [
+    ("past the test", two(SECOND, "")),
+    ("past the distance", two(KEPT_DISTANCE, "\tstl $20,8($30)\n")),
+    ("in a loop", two(KEPT_DISTANCE, "\tlda $19,-2($19)\n", last=SECOND_TABLE.replace("L1", "L6"))),
+]
+SOMETIMES = [
+    ("past the test", two(SECOND, "").replace("\t.gprel32 L2\n\t.gprel32 L6\n", "\t.gprel32 L6\n\t.gprel32 L2\n")),
+    ("past the distance, in a loop", two(KEPT_DISTANCE, "\tstl $20,8($30)\n", last=SECOND_TABLE.replace("L1", "L6"))),
+]
+
+
+def test_ways_from_where_nobody_comes_to_are_none(_):
+    for what, old in NEVER:
+        told = outcome(*scratch(old))
+        want("shown to do" in told, True, f"{what}: {told}")
+    for what, old in SOMETIMES:
+        told = outcome(*scratch(old))
+        want(("shown to do" in told, LIVE in told), (False, True), f"{what}: {told}")
+
+
+def test_code_to_which_only_the_end_of_a_table_leads_is_repaired(folder):
+    """Of a listing it is known where the map has its function: else other numbers may stand behind the table."""
+    path, map_path, out = (os.path.join(folder, name) for name in ("a.s", "a.map", "b.s"))
+    text = two(SECOND, "\taddq/v $16,$17,$16\n")
+    write(path, text.encode())
+    companion("shadowfix", path, "-o", out)
+    want(read(out).count("trapb"), 2, read(out))
+    old = listed("", [("long", label, FROM) for label in ("L1", "L2", "L4")],
+                 unseen="\tbr L2\nL4:\taddq/v $16,$17,$16\n\tbr L2\n")[0]
+    write(path, old.encode())
+    write(map_path, f"{0x10000:016x} {4 * (len(held.text_of('a.s', None, old).code.steps) - 3):016x} func f\n".encode())
+    companion("shadowfix", "--aside", "--map", map_path, path, "-o", out)
+    want(read(out).count("trapb"), 2, read(out))
+    _, notes = companion("shadowfix", "--aside", path, "-o", out, status=3)
+    want("nothing leads there" in notes, True, notes)
 
 
 # A whole program: its table stands at 0x10000000, and the global pointer at 0x10010000.
