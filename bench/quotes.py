@@ -2,14 +2,15 @@
 """Holds the pages against the sources that they quote.
 
 - A block whose fence says `rattle:FILE` stands in FILE word for word.
-- Of docs/theorems.md and docs/promises.md: each clause that is named with its function and its crate is there; each
-  fact or type that a quoted clause names stands where the first lines of its file say; and each row of a table of
-  clauses says how much its clause reaches: of definitions, of clap, and of types of the code (bench/reading.py).
+- Each clause that is named with its function is there.
+- Of docs/theorems.md and docs/promises.md: each fact or type that a quoted clause names stands where the first lines of
+  its file say; and each row of a table of clauses says how much its clause reaches: of definitions, of clap, and of
+  types of the code (bench/reading.py).
 - Each clause of `alpha_top` is named on one of the two. Each law that a page names is a function of some crate.
 - Of docs/theorems.md: the reading order has just the files of definitions that its clauses reach, each with those of
   the clauses that reach it (how many of its lines were run is held by bench/definitions/check.py), and each name of a
   quoted clause is in one of them; each promise of the table from claim to clause begins with words of README.md, and
-  its clauses are there; each must-fail edit is there.
+  its clauses are there; each must-fail edit is there; the kit's crates that must be trusted are those of crates.txt.
 - Of docs/ARCHITECTURE.md: the constants and definitions that the table of limits names have its numbers; each file that
   another table names is in the crate of its row, and has the names that it is said to have.
 - Of all crates: what bench/names.py says of the names that they declare.
@@ -42,7 +43,9 @@ MAPS = ("Where to find what", "One call from end to end", "Where effects happen"
 ROW = re.compile(r"^\| (.+) \|$", re.M)
 # A file with the name in front of it, and those in parentheses behind it.
 PLACED = re.compile(r"(?:`(\w+)` of )?`([\w/]+\.(?:rt|antt))`(?: \(((?:`\w+`(?:, )?)+)\))?")
-CITED = re.compile(r"((?:`\w+`(?:, | and ))*`\w+`) of `(\w+)` of `(alpha_\w+)`")
+# Clauses and their function, with its crate or, where its name tells it from a command, without; and the other way.
+CITED = re.compile(r"((?:`[\w-]+`(?:, | and ))*`[\w-]+`)(?:\*\*)? of `(\w+)`(?: of `(alpha_\w+)`)?")
+WITH_CLAUSES = re.compile(r"`(\w+)`, clauses? ((?:`[\w-]+`(?:, | and ))*`[\w-]+`)")
 REACHED = re.compile(r"^\| `(\w+)` of `(\w+)` of `(alpha_\w+)`([^|\n]*) \| ([\d,]+ lines of \d+ files)"
                      r" \| ([^|\n]*) \| ([^|\n]*) \| ([^|\n]*) \|$", re.M)
 CLAUSE = re.compile(r"ensures (\w+) \{")
@@ -171,19 +174,24 @@ def check_names(page, text, order, wrong):
                 wrong.append(f"{page}: a clause names {name}, and the reading order lacks {place}")
 
 
-def check_cited(page, text, wrong):
-    for names, function, crate in CITED.findall(text):
-        there, *_ = clauses(crate, function)
-        wrong.extend(f"{page}: {function} of {crate} has no clause {name}"
-                     for name in re.findall(r"\w+", names.replace(" and ", " "))
-                     if name not in there)
-
-
 @functools.cache
 def functions():
-    """The names of all functions of the repository."""
-    sources = (file.read_text() for file in TOP.glob("crates/*/src/**/*.rt"))
-    return {name for source in sources for name in re.findall(r"\bfn (\w+)", source)}
+    """The names of all functions of the repository, each with the crates that have one."""
+    found = {}
+    for file in TOP.glob("crates/*/src/**/*.rt"):
+        for name in re.findall(r"\bfn (\w+)", file.read_text()):
+            found.setdefault(name, set()).add(file.relative_to(TOP).parts[1])
+    return found
+
+
+def check_cited(page, text, wrong):
+    """Holds the clauses that a page names with their function."""
+    cited = CITED.findall(text) + [(names, function, "") for function, names in WITH_CLAUSES.findall(text)]
+    for names, function, crate in cited:
+        owners = [crate] if crate else functions().get(function, ()) if "_" in function else ()
+        there = {name for owner in owners for name in clauses(owner, function)[0]}
+        wrong.extend(f"{page}: {function} has no clause {name}" for name in re.findall(r"`([\w-]+)`", names)
+                     if owners and name not in there)
 
 
 def check_claims(text, readme, wrong):
@@ -200,6 +208,15 @@ def check_claims(text, readme, wrong):
             function, crate = (owner + ["alpha_top", "alpha_cmd"][len(owner):])[:2]
             there, *_ = clauses(crate, function)
             wrong.extend(f"{function} has no clause {name}" for name in names.split(", ") if name and name not in there)
+
+
+def check_trusted(text, wrong):
+    """Holds the kit's crates that must be trusted: those on which a crate of the repository stands."""
+    lines = [line.split(":") for line in (TOP / "crates.txt").read_text().splitlines()]
+    below = {name for _, names in lines for name in names.split()} - {own for own, _ in lines}
+    said = set(re.findall(r"`(\w+)`", text.split("**The statements of the kit's crates**", 1)[1].split("\n", 1)[0]))
+    wrong.extend(f"of the kit's crates {name} is trusted, and no crate stands on it" for name in sorted(said - below))
+    wrong.extend(f"the kit's crate {name} must be trusted too" for name in sorted(below - said))
 
 
 def files_named(cell, crate):
@@ -275,17 +292,18 @@ def main():
     for page in [TOP / "README.md", *sorted(TOP.glob("docs/*.md"))]:
         text, name = page.read_text(), page.relative_to(TOP)
         new = check_blocks(name, text, write, wrong)
-        wrong.extend(f"{name}: there is no law {law}" for law in sorted(set(LAW.findall(text)) - functions()))
+        wrong.extend(f"{name}: there is no law {law}" for law in sorted(set(LAW.findall(text)) - set(functions())))
         if page in (THEOREMS, PROMISES):
             new = check_reached(new, write, wrong)
             new = check_order(new, write, wrong) if page == THEOREMS else new
             check_names(name, new, page == THEOREMS, wrong)
-            check_cited(name, new, wrong)
+        check_cited(name, new, wrong)
         if page.name == "ARCHITECTURE.md":
             check_limits(text, wrong)
             check_maps(text, wrong)
         if page == THEOREMS:
             check_claims(new, readme, wrong)
+            check_trusted(new, wrong)
             wrong.extend(f"there is no edit {edit} of {crate}" for crate, edit in EDIT.findall(new)
                          if not (TOP / "crates" / crate / "must-fail" / f"{edit}.edit").exists())
         if write and new != text:
