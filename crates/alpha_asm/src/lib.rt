@@ -26,11 +26,9 @@
 //! [`Line`] is the first line of a source, and what stands behind it.
 //!
 //! [`Section`], [`LabelLocation`], [`RelocField`] and [`Displacement`] are what its definitions speak of, for crates
-//! that
-//! cite them, and [`Labels`], [`Patch`], [`Target`] and [`RelocationKind`] what [`Unlinked`] has. [`put_insn`] and
-//! [`put_quad`] put an address in, here and in a link, [`RelocField::applies_to`] says which instruction it goes into,
-//! and
-//! [`padding`] rounds sizes. [`CODE_BASE`], [`DATA_BASE`] and [`STACK_BYTES`] are what an image has without
+//! that cite them, and [`Labels`], [`Patch`], [`Target`] and [`RelocationKind`] what [`Unlinked`] has. [`put_insn`]
+//! and [`put_quad`] put an address in, here and in a link, [`RelocField::applies_to`] says which instruction it goes
+//! into, and [`padding`] rounds sizes. [`CODE_BASE`], [`DATA_BASE`] and [`STACK_BYTES`] are what an image has without
 //! statements of them.
 //!
 //! `specs/Statement.antt` has what a statement asks, `specs/Layout.antt` where each item stands,

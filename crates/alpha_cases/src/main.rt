@@ -2,9 +2,8 @@
 //! otherwise than they should. A test of a command is such a case, in a file `data/*.cases`.
 //!
 //! A file is a list of cases. A case has files, of which a later one takes the place of one of its name, and calls of
-//! the program over them. Each line begins
-//! with a word that says what it is; lines that begin with four spaces belong to the line before, and
-//! `@N LINE` is N of them, and `@N` N empty ones.
+//! the program over them. Each line begins with a word that says what it is; lines that begin with four spaces belong
+//! to the line before, and `@N LINE` is N of them, and `@N` N empty ones.
 //!
 //! | Line | What it is |
 //! |---|---|

@@ -147,10 +147,9 @@ fn statement_of_directive<'a>(
     }
 }
 
-/// What a name beside the table says that stands before `rest`; `words` are the same behind its blanks.
-/// The caller of [`statement_of_directive`] clears a place for the answer before the call. This function is inlined
-/// and has
-/// that place, so that only such names wait for it.
+/// What a name beside the table says that stands before `rest`; `words` are the same behind its blanks. The caller of
+/// [`statement_of_directive`] clears a place for the answer before the call. This function is inlined and has that
+/// place, so that only such names wait for it.
 #[inline(always)]
 pub(crate) fn of_directive<'a>(
     pseudo_op: PseudoOp,

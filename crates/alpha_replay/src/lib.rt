@@ -36,10 +36,10 @@
 //! `src/journal_header.rt` reads what stands before the input, `src/items.rt` the items; `src/read.rt` and
 //! `src/write.rt` are the ways in and out. All tests of bytes come before the first memory is taken.
 //!
-//! `src/replaying.rt` has the replay: `src/play.rt` plays the items, each move by a step of the machine that chooses as
-//! the move says (`src/fixed_choice.rt`): a move is impossible where the step's event is of another one
-//! (`src/moves.rt`). What a
-//! step put stands in memory behind it (`src/passed.rt`), and `src/compare.rt` holds it against the journal's output.
+//! `src/replaying.rt` has the replay: `src/play.rt` plays the items, each move by a step of the machine that chooses
+//! as the move says (`src/fixed_choice.rt`): a move is impossible where the step's event is of another one
+//! (`src/moves.rt`). What a step put stands in memory behind it (`src/passed.rt`), and `src/compare.rt` holds it
+//! against the journal's output.
 //!
 //! `specs/Journal.antt` has what a journal is and its spelling, over the `specs/Items.antt` and the
 //! `specs/Endings.antt`; `specs/Reading.antt` what bytes say of a journal, and `specs/JournalFault.antt` their first
@@ -47,17 +47,15 @@
 //! `specs/Moves.antt` has what a move chooses and where it is possible, `specs/Listed.antt` the steps that items
 //! list, or the first item that is impossible, and `specs/Replay.antt` what a replay answers, over the outputs of
 //! `specs/Compared.antt`. `specs/Events.antt` has the move of a step and its bytes, by its event,
-//! `specs/FixedChoice.antt` the
-//! choice that a move makes, `specs/ReplayEffect.antt` what the code did that plays items, and
-//! `specs/CursorState.antt` how the last
-//! step went behind steps that only go on. `specs/GatheredItems.antt` has the items of a list of steps, and
-//! `specs/Journaled.antt` the journal that is read off it, and where a run stops that has one.
+//! `specs/FixedChoice.antt` the choice that a move makes, `specs/ReplayEffect.antt` what the code did that plays
+//! items, and `specs/CursorState.antt` how the last step went behind steps that only go on.
+//! `specs/GatheredItems.antt` has the items of a list of steps, and `specs/Journaled.antt` the journal that is read
+//! off it, and where a run stops that has one.
 //!
-//! `src/make.rt` makes a run by the loop of `alpha_run`: `src/recorder.rt` is what looks at its steps there, and notes
-//! on
-//! the `src/journal_builder.rt` the move of each and the bytes that it took and put (`specs/BuilderState.antt`,
-//! `specs/Recorder.antt`).
-//! It stops the run behind a step that doesn't fit. `specs/JournalEnd.antt` is what is answered of a run.
+//! `src/make.rt` makes a run by the loop of `alpha_run`: `src/recorder.rt` is what looks at its steps there, and
+//! notes on the `src/journal_builder.rt` the move of each and the bytes that it took and put
+//! (`specs/BuilderState.antt`, `specs/Recorder.antt`). It stops the run behind a step that doesn't fit.
+//! `specs/JournalEnd.antt` is what is answered of a run.
 #![tactic(auto)]
 
 mod compare;

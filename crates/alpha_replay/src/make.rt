@@ -29,10 +29,8 @@ use std::alloc::Global;
 /// before it. All memory that it needs is taken before the first step; rows of the code are made where there is more.
 ///
 /// From a machine at the start and with nothing pending the items list the run, as [`crate::laws_of_journaled_runs`]
-/// says.
-/// Over a source that tells nothing too its journal has the moves, the bytes taken and the bytes put of just the steps
-/// that
-/// were made.
+/// says. Over a source that tells nothing too its journal has the moves, the bytes taken and the bytes put of just
+/// the steps that were made.
 pub fn make_journal<C: Chooser, S: Source, K: Sink, N: Sink>(
     alloc: Global,
     wild: &mut Wild,
@@ -72,8 +70,7 @@ pub fn make_journal<C: Chooser, S: Source, K: Sink, N: Sink>(
 }
 
 // Makes the run, and notes it, until it is over, a device fails or the tape is full. It is never inlined, so that the
-// loop
-// of the run is compiled by itself.
+// loop of the run is compiled by itself.
 #[inline(never)]
 fn run_and_record<C: Chooser, S: Source, K: Sink, N: Sink>(
     recorder: &mut Recorder,

@@ -10,15 +10,13 @@
 //! - [`Event`] is how a step went, with [`Passed`] what a barrier took or put and [`Wait`] what an instruction did
 //!   while a trap was pending; [`Fault`] is the device that failed in a step, [`End`] how a program ends.
 //! - [`Machine::insn`], [`Machine::source`], [`Machine::accessed_address`], [`Machine::set`] and [`Machine::advance`]
-//!   are the
-//!   parts of a step that other machines share, with [`memory_access`], [`size`] and [`branch_target`].
+//!   are the parts of a step that other machines share, with [`memory_access`], [`size`] and [`branch_target`].
 //! - [`write_overflow`], [`write_barrier`], [`write_registers`] and [`write_end`] write the lines of an overflow, of a
 //!   barrier, of the registers alone and of an end; [`line_of_end`] is the last of these.
 //! - [`laws_of_steps`]: a step leaves how many registers there are and where the blocks of memory lie, and one that
-//!   ends
-//!   the program leaves all. [`laws_of_runs`]: a run that is over stays, and one that isn't has made all its steps.
-//!   [`laws_of_inputs`]: the run over an input is the list of events that the input feeds, and a run that reads nothing
-//!   is the same over every input.
+//!   ends the program leaves all. [`laws_of_runs`]: a run that is over stays, and one that isn't has made all its
+//!   steps. [`laws_of_inputs`]: the run over an input is the list of events that the input feeds, and a run that
+//!   reads nothing is the same over every input.
 //!
 //! `specs/State.antt` says what a program and a state are and what comes of a step, `specs/Start.antt` what the state
 //! at the start is, `specs/Step.antt` what each class of words does, `specs/Run.antt` what a run is, whatever its steps

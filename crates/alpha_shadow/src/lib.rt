@@ -14,15 +14,14 @@
 //! - [`laws_of_verdicts`] says that each condition is decided, and that every list of words is
 //!   accepted or has a least broken place.
 //!
-//! `specs/Code.antt` reads the columns of the code by place, `specs/Broken.antt` says when a place is broken and which
-//! code is accepted, `specs/Least.antt` which broken place is the least. The body is `verdict.rt` (the walk over the
-//! words, which `first_trigger.rt` brings to the next trigger where no shadow is open) over `place.rt` (the least
-//! broken place
-//! at one word, condition by condition), `window.rt` (what is known of the words before a place, whose meaning is
-//! `specs/Window.antt`), `triggers.rt` and `loads.rt` (the open triggers, and the loads after the first of them),
-//! `last.rt` (the last place of each register) and `columns.rt` (what is read of one word). `broken.rt` has what a
-//! verdict names, `fetch.rt` and `insn_code.rt` where the words come from, and `words.rt` the verdict on a slice of
-//! them.
+//! `specs/Code.antt` reads the columns of the code by place, `specs/Broken.antt` says when a place is broken and
+//! which code is accepted, `specs/Least.antt` which broken place is the least. The body is `verdict.rt` (the walk
+//! over the words, which `first_trigger.rt` brings to the next trigger where no shadow is open) over `place.rt` (the
+//! least broken place at one word, condition by condition), `window.rt` (what is known of the words before a place,
+//! whose meaning is `specs/Window.antt`), `triggers.rt` and `loads.rt` (the open triggers, and the loads after the
+//! first of them), `last.rt` (the last place of each register) and `columns.rt` (what is read of one word).
+//! `broken.rt` has what a verdict names, `fetch.rt` and `insn_code.rt` where the words come from, and `words.rt` the
+//! verdict on a slice of them.
 //!
 //! `proofs/Shadows.antt`, `OpenLoads.antt` and `LastPlaces.antt` follow the open triggers, the open loads and the
 //! registers' places word by word; `BreakingTriggers.antt` ties each condition to them, `LeastBrokenSteps.antt` joins

@@ -16,11 +16,9 @@
 //!
 //! In `proofs/`, `DecodedProgram.antt` ties words to instructions, `TrialShadows.antt` shows that the program is
 //! accepted, `WordCounts.antt` and `GoodImage.antt` the other laws, and `RunTotals.antt` says what was counted in the
-//! code's runs.
-//! `RunStages.antt` says where the sequential run stands after so many steps, `StepsWithoutEffect.antt` takes it
-//! through the blocks,
-//! `DataBuffer.antt` and `ExitBlock.antt` through the words behind them; `OverflowDraws.antt` counts what an imprecise
-//! run draws, and `TrialRunsAlike.antt` has both runs.
+//! code's runs. `RunStages.antt` says where the sequential run stands after so many steps, `StepsWithoutEffect.antt`
+//! takes it through the blocks, `DataBuffer.antt` and `ExitBlock.antt` through the words behind them;
+//! `OverflowDraws.antt` counts what an imprecise run draws, and `TrialRunsAlike.antt` has both runs.
 #![tactic(auto)]
 
 mod laws;
