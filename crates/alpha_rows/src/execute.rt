@@ -9,18 +9,14 @@ use crate::effects::{
     branch, branch_always, branch_with_link, idle, jump, load, load_address, operate, store,
 };
 use crate::row::{Row, RowOp};
-use crate::values::{
-    cmov_result, exact_result, quadword, rare_row_value, scaled_long_sum, scaled_sum, shift_left,
-    shift_right, shift_right_signed, sign_extend_byte, sign_extend_word, wrapped_result,
-};
+use crate::row_values::{rare_row_value, row_value};
 use alpha_image::Image;
 use alpha_mem::Region;
-use alpha_table::{Cond, Extension, MemOp, TrapOp};
+use alpha_table::{Cond, Extension, MemOp};
 use alpha_words::{Level, RegFile};
 
 /// Does what a row says, if the word there only goes on, and answers whether it did. One table has all arms but those
 /// of the less common operate instructions, so that a row costs one jump by it.
-#[tactic(auto, using(crate::proofs::OperateRowValues::if_some_equal), unfolding(alpha_values::specs::Op::result_of, alpha_values::specs::TrapOp::completed_of))]
 #[inline(always)]
 pub(crate) fn execute(
     image: &Image,
@@ -44,12 +40,12 @@ pub(crate) fn execute(
     ensures regions { result ≡ false → regions.new ≡ regions.old }
     ensures place { result ≡ false → place.new ≡ place.old }
 {
-    // The registers and the literal of the row, and an operate instruction that leaves a value or may have none.
-    macro_rules! first { () => { regs.get(row.a) }; }
-    macro_rules! second { () => { regs.get(row.b) }; }
-    macro_rules! literal { () => { u64::from(row.imm) }; }
-    macro_rules! outcome { ($value:expr) => { operate($value, image, level, row, regs, place) }; }
-    macro_rules! value { ($value:expr) => { operate(Some($value), image, level, row, regs, place) }; }
+    // A common operate instruction. `row_value` is told which, so that no table is left of it.
+    macro_rules! operated {
+        ($op:ident) => {
+            operate(row_value(level, RowOp::$op, row, regs), image, level, row, regs, place)
+        };
+    }
     let op = row.op;
     match op {
         RowOp::Leave => false,
@@ -119,66 +115,66 @@ pub(crate) fn execute(
         RowOp::Bne => branch(Cond::Ne, image, row, regs, place),
         RowOp::Bge => branch(Cond::Ge, image, row, regs, place),
         RowOp::Bgt => branch(Cond::Gt, image, row, regs, place),
-        RowOp::AddlReg => value!(wrapped_result(TrapOp::AddlV, first!(), second!())),
-        RowOp::AddlLit => value!(wrapped_result(TrapOp::AddlV, first!(), literal!())),
-        RowOp::SublReg => value!(wrapped_result(TrapOp::SublV, first!(), second!())),
-        RowOp::SublLit => value!(wrapped_result(TrapOp::SublV, first!(), literal!())),
-        RowOp::MullReg => value!(wrapped_result(TrapOp::MullV, first!(), second!())),
-        RowOp::MullLit => value!(wrapped_result(TrapOp::MullV, first!(), literal!())),
-        RowOp::AddqReg => value!(wrapped_result(TrapOp::AddqV, first!(), second!())),
-        RowOp::AddqLit => value!(wrapped_result(TrapOp::AddqV, first!(), literal!())),
-        RowOp::SubqReg => value!(wrapped_result(TrapOp::SubqV, first!(), second!())),
-        RowOp::SubqLit => value!(wrapped_result(TrapOp::SubqV, first!(), literal!())),
-        RowOp::MulqReg => value!(wrapped_result(TrapOp::MulqV, first!(), second!())),
-        RowOp::MulqLit => value!(wrapped_result(TrapOp::MulqV, first!(), literal!())),
-        RowOp::AddlVReg => outcome!(exact_result(TrapOp::AddlV, first!(), second!())),
-        RowOp::AddlVLit => outcome!(exact_result(TrapOp::AddlV, first!(), literal!())),
-        RowOp::SublVReg => outcome!(exact_result(TrapOp::SublV, first!(), second!())),
-        RowOp::SublVLit => outcome!(exact_result(TrapOp::SublV, first!(), literal!())),
-        RowOp::AddqVReg => outcome!(exact_result(TrapOp::AddqV, first!(), second!())),
-        RowOp::AddqVLit => outcome!(exact_result(TrapOp::AddqV, first!(), literal!())),
-        RowOp::SubqVReg => outcome!(exact_result(TrapOp::SubqV, first!(), second!())),
-        RowOp::SubqVLit => outcome!(exact_result(TrapOp::SubqV, first!(), literal!())),
-        RowOp::S4addqReg => value!(scaled_sum(4, first!(), second!())),
-        RowOp::S4addqLit => value!(scaled_sum(4, first!(), literal!())),
-        RowOp::S8addqReg => value!(scaled_sum(8, first!(), second!())),
-        RowOp::S8addqLit => value!(scaled_sum(8, first!(), literal!())),
-        RowOp::CmpeqReg => value!(u64::from(first!() == second!())),
-        RowOp::CmpeqLit => value!(u64::from(first!() == literal!())),
-        RowOp::CmpltReg => value!(u64::from(quadword(first!()) < quadword(second!()))),
-        RowOp::CmpltLit => value!(u64::from(quadword(first!()) < quadword(literal!()))),
-        RowOp::CmpleReg => value!(u64::from(quadword(first!()) <= quadword(second!()))),
-        RowOp::CmpleLit => value!(u64::from(quadword(first!()) <= quadword(literal!()))),
-        RowOp::CmpultReg => value!(u64::from(first!() < second!())),
-        RowOp::CmpultLit => value!(u64::from(first!() < literal!())),
-        RowOp::CmpuleReg => value!(u64::from(first!() <= second!())),
-        RowOp::CmpuleLit => value!(u64::from(first!() <= literal!())),
-        RowOp::AndReg => value!(first!() & second!()),
-        RowOp::AndLit => value!(first!() & literal!()),
-        RowOp::BisReg => value!(first!() | second!()),
-        RowOp::BisLit => value!(first!() | literal!()),
-        RowOp::XorReg => value!(first!() ^ second!()),
-        RowOp::XorLit => value!(first!() ^ literal!()),
-        RowOp::BicReg => value!(first!() & !second!()),
-        RowOp::BicLit => value!(first!() & !literal!()),
-        RowOp::OrnotReg => value!(first!() | !second!()),
-        RowOp::OrnotLit => value!(first!() | !literal!()),
-        RowOp::SllReg => value!(shift_left(first!(), second!())),
-        RowOp::SllLit => value!(shift_left(first!(), literal!())),
-        RowOp::SrlReg => value!(shift_right(first!(), second!())),
-        RowOp::SrlLit => value!(shift_right(first!(), literal!())),
-        RowOp::SraReg => value!(shift_right_signed(first!(), second!())),
-        RowOp::SraLit => value!(shift_right_signed(first!(), literal!())),
-        RowOp::S4addlReg => value!(scaled_long_sum(4, first!(), second!())),
-        RowOp::S4addlLit => value!(scaled_long_sum(4, first!(), literal!())),
-        RowOp::SextbReg => value!(sign_extend_byte(second!())),
-        RowOp::SextbLit => value!(sign_extend_byte(literal!())),
-        RowOp::SextwReg => value!(sign_extend_word(second!())),
-        RowOp::SextwLit => value!(sign_extend_word(literal!())),
-        RowOp::CmoveqReg => value!(cmov_result(Cond::Eq, first!(), second!(), regs.get(row.c))),
-        RowOp::CmoveqLit => value!(cmov_result(Cond::Eq, first!(), literal!(), regs.get(row.c))),
-        RowOp::CmovneReg => value!(cmov_result(Cond::Ne, first!(), second!(), regs.get(row.c))),
-        RowOp::CmovneLit => value!(cmov_result(Cond::Ne, first!(), literal!(), regs.get(row.c))),
+        RowOp::AddlReg => operated!(AddlReg),
+        RowOp::AddlLit => operated!(AddlLit),
+        RowOp::SublReg => operated!(SublReg),
+        RowOp::SublLit => operated!(SublLit),
+        RowOp::MullReg => operated!(MullReg),
+        RowOp::MullLit => operated!(MullLit),
+        RowOp::AddqReg => operated!(AddqReg),
+        RowOp::AddqLit => operated!(AddqLit),
+        RowOp::SubqReg => operated!(SubqReg),
+        RowOp::SubqLit => operated!(SubqLit),
+        RowOp::MulqReg => operated!(MulqReg),
+        RowOp::MulqLit => operated!(MulqLit),
+        RowOp::AddlVReg => operated!(AddlVReg),
+        RowOp::AddlVLit => operated!(AddlVLit),
+        RowOp::SublVReg => operated!(SublVReg),
+        RowOp::SublVLit => operated!(SublVLit),
+        RowOp::AddqVReg => operated!(AddqVReg),
+        RowOp::AddqVLit => operated!(AddqVLit),
+        RowOp::SubqVReg => operated!(SubqVReg),
+        RowOp::SubqVLit => operated!(SubqVLit),
+        RowOp::S4addqReg => operated!(S4addqReg),
+        RowOp::S4addqLit => operated!(S4addqLit),
+        RowOp::S8addqReg => operated!(S8addqReg),
+        RowOp::S8addqLit => operated!(S8addqLit),
+        RowOp::CmpeqReg => operated!(CmpeqReg),
+        RowOp::CmpeqLit => operated!(CmpeqLit),
+        RowOp::CmpltReg => operated!(CmpltReg),
+        RowOp::CmpltLit => operated!(CmpltLit),
+        RowOp::CmpleReg => operated!(CmpleReg),
+        RowOp::CmpleLit => operated!(CmpleLit),
+        RowOp::CmpultReg => operated!(CmpultReg),
+        RowOp::CmpultLit => operated!(CmpultLit),
+        RowOp::CmpuleReg => operated!(CmpuleReg),
+        RowOp::CmpuleLit => operated!(CmpuleLit),
+        RowOp::AndReg => operated!(AndReg),
+        RowOp::AndLit => operated!(AndLit),
+        RowOp::BisReg => operated!(BisReg),
+        RowOp::BisLit => operated!(BisLit),
+        RowOp::XorReg => operated!(XorReg),
+        RowOp::XorLit => operated!(XorLit),
+        RowOp::BicReg => operated!(BicReg),
+        RowOp::BicLit => operated!(BicLit),
+        RowOp::OrnotReg => operated!(OrnotReg),
+        RowOp::OrnotLit => operated!(OrnotLit),
+        RowOp::SllReg => operated!(SllReg),
+        RowOp::SllLit => operated!(SllLit),
+        RowOp::SrlReg => operated!(SrlReg),
+        RowOp::SrlLit => operated!(SrlLit),
+        RowOp::SraReg => operated!(SraReg),
+        RowOp::SraLit => operated!(SraLit),
+        RowOp::S4addlReg => operated!(S4addlReg),
+        RowOp::S4addlLit => operated!(S4addlLit),
+        RowOp::SextbReg => operated!(SextbReg),
+        RowOp::SextbLit => operated!(SextbLit),
+        RowOp::SextwReg => operated!(SextwReg),
+        RowOp::SextwLit => operated!(SextwLit),
+        RowOp::CmoveqReg => operated!(CmoveqReg),
+        RowOp::CmoveqLit => operated!(CmoveqLit),
+        RowOp::CmovneReg => operated!(CmovneReg),
+        RowOp::CmovneLit => operated!(CmovneLit),
         RowOp::Branch => branch_always(image, row, regs, place),
         RowOp::BranchLink => branch_with_link(image, row, regs, place),
         RowOp::Jump => jump(image, row, regs, place),

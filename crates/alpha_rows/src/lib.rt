@@ -12,7 +12,8 @@
 //!
 //! `src/machine.rt` has the machine, `src/row.rt` what a row is, and `src/make.rt` makes the rows. `src/fast.rt` is the
 //! loop over them, `src/execute.rt` has what is done at one row, `src/effects.rt` what rows of each kind do,
-//! `src/regions.rt` their loads and stores, and `src/values.rt` the results of operate instructions.
+//! `src/regions.rt` their loads and stores, `src/row_values.rt` the values of operate rows, and `src/values.rt` the
+//! results of which they are made.
 #![tactic(auto)]
 
 mod effects;
@@ -23,6 +24,7 @@ mod make;
 mod program_rows;
 mod regions;
 mod row;
+mod row_values;
 mod values;
 
 pub use machine::RowMachine;

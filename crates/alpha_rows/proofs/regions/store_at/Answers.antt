@@ -49,3 +49,14 @@ returns-clause-memory c = by c.store.result refl
     by false kept =
         subst (λ (x : Block). IsMemory (set c.args.regions.now c.args.i x)) (sym (c.store.ensures.refused kept))
         (subst (λ (m : List Block). IsMemory m) (sym (set_here c.args.regions.now c.args.i b here)) c.requires.memory)
+
+pub returns-clause-refused : goal.returns-clause-refused
+returns-clause-refused c = λ kept.
+    let a = c.args in
+    let b : Block = get_or a.regions.now a.i c.index-regions-i.result in
+    let here : IsAt a.regions.now a.i b = record {
+      memory = c.requires.memory;
+      inside = c.requires.inside;
+      here = ap (get_or a.regions.now a.i) c.index-regions-i.is;
+    } in
+    ap (set a.regions.now a.i) (c.store.ensures.refused kept) ∙ set_here a.regions.now a.i b here
