@@ -6,6 +6,8 @@ import os
 import subprocess
 import sys
 
+from measure import Folder, read
+
 MEASURE = """
 import os, sys
 _, status, used = os.wait4(os.posix_spawn(sys.argv[2], sys.argv[2:], os.environ), 0)
@@ -14,23 +16,15 @@ with open(sys.argv[1], "w") as file:
 """
 
 
-class Calls:
+class Calls(Folder):
     """Calls of the program on files of a folder, and how many answered otherwise than they should."""
 
     def __init__(self, program, folder):
-        self.program, self.folder, self.count, self.wrong = os.path.abspath(program), folder, 0, 0
-
-    def path(self, name):
-        return os.path.join(self.folder, name)
-
-    def keep(self, name, contents):
-        with open(self.path(name), "wb") as file:
-            file.write(contents)
-        return self.path(name)
+        super().__init__(folder)
+        self.program, self.count, self.wrong = os.path.abspath(program), 0, 0
 
     def read(self, name):
-        with open(self.path(name), "rb") as file:
-            return file.read()
+        return read(self.path(name))
 
     def made(self, name, text):
         """The image of a source, that is made without being told."""

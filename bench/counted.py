@@ -5,13 +5,12 @@ two calls, so that the start isn't in it. It needs gcc and valgrind.
 
     bench/counted.py [PROGRAM]
 """
-import os
 import subprocess
 import tempfile
 
 from asm import canonical, source
-from link import module, symbol
-from measure import (TOP, WORDS, branch, branch_if, image, instructions, load, no_triggers, operate, store,
+from formats import module, symbol
+from measure import (TOP, WORDS, Folder, branch, branch_if, image, instructions, load, no_triggers, operate, store,
                      the_program)
 from run import loop
 
@@ -28,21 +27,13 @@ LOOPS = {
 }
 
 
-class Both:
+class Both(Folder):
     """The program and the one in C, in a folder of their own."""
 
     def __init__(self, program, folder):
-        self.program, self.folder = program, folder
-        self.plain = self.path("counted")
+        super().__init__(folder)
+        self.program, self.plain = program, self.path("counted")
         subprocess.run(["gcc", "-O2", "-o", self.plain, f"{TOP}/bench/counted.c"], check=True)
-
-    def path(self, name):
-        return os.path.join(self.folder, name)
-
-    def keep(self, name, contents):
-        with open(self.path(name), "wb") as file:
-            file.write(contents)
-        return self.path(name)
 
     def of_plain(self, file, *words):
         with open(file, "rb") as contents:
@@ -59,7 +50,7 @@ class Both:
 
 def one_module(code):
     """A module of this code, which begins at its first word."""
-    return module(b"".join(word.to_bytes(4, "little") for word in code), b"", [symbol(0, b"start")], [])
+    return module(code, b"", [symbol(0, b"start")])
 
 
 def count_words(both):

@@ -11,12 +11,11 @@ branch to the next one; of `link` one module has all names as symbols.
 import itertools
 import os
 import string
-import struct
 import sys
 import tempfile
 
+from formats import module, symbol
 from last_names import LAST, ONE_HASH, ON_THE_WAY, search
-from link import module, symbol
 from measure import NOP, instructions, the_program
 
 COUNTS = (25_000, 50_000, 100_000)
@@ -60,7 +59,7 @@ def source(names):
 def symbols(names):
     """A module of one word whose symbols are these names, all at its start, and `start`."""
     all_names = sorted([name.encode() for name in names] + [b"start"])
-    return module(struct.pack("<I", NOP), b"", [symbol(0, name) for name in all_names], [])
+    return module([NOP], b"", [symbol(0, name) for name in all_names])
 
 
 def count(program, folder, kind, number):
@@ -100,11 +99,11 @@ def count_uses(program, folder, names, used):
     for number, name in enumerate([*names, "start"]):
         files.append(os.path.join(folder, f"m{number}"))
         with open(files[-1], "wb") as file:
-            file.write(module(struct.pack("<I", NOP), b"", [symbol(0, name.encode())], []))
+            file.write(module([NOP], b"", [symbol(0, name.encode())]))
     both = []
     for symbols in ([], [symbol(2, name.encode()) for name in sorted(used)]):
         with open(path, "wb") as file:
-            file.write(module(struct.pack("<I", NOP), b"", symbols, []))
+            file.write(module([NOP], b"", symbols))
         both.append(instructions([program, "link", out, *files, *[path] * (64 - len(files))]))
     taken["a symbol of link"] = (both[1] - both[0]) / (len(used) * (64 - len(files)))
     return taken

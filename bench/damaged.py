@@ -15,7 +15,7 @@ import sys
 import tempfile
 from concurrent.futures import ThreadPoolExecutor
 
-from measure import TOP, the_program
+from measure import TOP, read, the_program
 
 COMPANIONS = os.path.join(TOP, "companions")
 SECONDS, MEGABYTES = 10, 300
@@ -70,11 +70,6 @@ def wholes(program, folder):
              "map": [made("sort.map")], "journal": [f"{TOP}/examples/late.journal"]}
     found = {kind: [read(path) for path in paths] for kind, paths in kinds.items()} | {"archive": [archive]}
     return found, {"IMAGE": made("sort.img"), "RUN": made("late.img"), "SOURCE": made("sum.as")}
-
-
-def read(path):
-    with open(path, "rb") as file:
-        return file.read()
 
 
 def damaged(content, chosen):

@@ -7,6 +7,8 @@ import shutil
 import subprocess
 import sys
 
+from measure import Folder
+
 # The CALL of each name fails with NUMBER at its turn COUNT, or at every second turn where COUNT is 0. COUNTED is the
 # file that gets, at the end, how often it was called. Where SECRET is there the call doesn't fail: just before it each
 # new file in FOLDER is swapped for a link to SECRET.
@@ -80,20 +82,16 @@ SOURCE = b"start: lda $0,1($31)\n callsys\n .entry start\n"
 OLD = b"the old file\n"
 
 
-class Trial:
+class Trial(Folder):
     """A folder with a source, what its image is, and what went wrong so far."""
 
     def __init__(self, program, folder):
-        self.program, self.folder, self.wrong, self.library = program, folder, 0, None
-        self.source, self.out = os.path.join(folder, "a.s"), os.path.join(folder, "out")
-        with open(self.source, "wb") as file:
-            file.write(SOURCE)
+        super().__init__(folder)
+        self.program, self.wrong, self.library = program, 0, None
+        self.source, self.out = self.keep("a.s", SOURCE), self.path("out")
         if self.asm().returncode:
             sys.exit(f"{program} doesn't assemble")
         self.new = self.read(self.out)
-
-    def path(self, name):
-        return os.path.join(self.folder, name)
 
     def read(self, path):
         try:
@@ -104,8 +102,7 @@ class Trial:
 
     def old_out(self):
         self.clear()
-        with open(self.out, "wb") as file:
-            file.write(OLD)
+        self.keep("out", OLD)
 
     def clear(self):
         for file in [self.out, *self.left()]:
@@ -142,8 +139,6 @@ def build(trial):
     if not compiler:
         print("left out: failing calls, interrupted calls and counted calls: there is no C compiler")
         return False
-    source, trial.library = trial.path("failing.c"), trial.path("failing.so")
-    with open(source, "w") as file:
-        file.write(FAILING)
+    source, trial.library = trial.keep("failing.c", FAILING.encode()), trial.path("failing.so")
     subprocess.run([compiler, "-w", "-shared", "-fPIC", "-o", trial.library, source, "-ldl"], check=True)
     return True

@@ -12,6 +12,7 @@ import sys
 import tempfile
 
 from called import Calls
+from formats import REPORT, journal, module, symbol, trigger, units, wait
 from measure import NOP, TRAPB, WORDS, addqv, branch, image, level_image, operate, the_program
 from trials import written
 
@@ -23,27 +24,6 @@ BASE, DATA_BASE = 0x10000, 0x10000000
 
 
 # Journals.
-
-def units(count):
-    return struct.pack("<BI", 0, count)
-
-
-def trigger(value):
-    return struct.pack("<BQ", 1, value)
-
-
-def wait(value):
-    return struct.pack("<BBQ", 2, 0, value)
-
-
-REPORT = b"\3"
-
-
-def journal(items, count, given, put, ending=0):
-    """Of a run that wraps, whose ending has the numbers 0 and 0."""
-    return (struct.pack("<8sBBQQIII", b"ALPHAJR1", 0, ending, 0, 0, len(given), len(put), count) + given + put
-            + b"".join(items))
-
 
 # Takes all input up to a byte more than a journal may have, and puts as many bytes as it may have and so many more;
 # then there are so many overflows, each with its barrier, and steps without an end or an exit. Sixteen words stand
@@ -164,16 +144,6 @@ EACH, SHARE = WORDS // FILES, DATA // FILES
 
 def name(letter, number):
     return letter + b"%0*d" % (NAME - 1, number)
-
-
-def symbol(section, text, offset=0):
-    return struct.pack("<BHI", section, len(text), offset) + text
-
-
-def module(words, data, symbols, relocations=(), zeroed=0):
-    numbers = struct.pack("<5I", len(words), len(data), zeroed, len(symbols), len(relocations))
-    return (b"ALPHAOB1" + numbers + struct.pack(f"<{len(words)}I", *words) + data + b"".join(symbols)
-            + b"".join(relocations))
 
 
 def part(number, words=EACH, data=SHARE, size=0):

@@ -14,7 +14,8 @@ import subprocess
 import sys
 import tempfile
 
-from measure import NOP, best, counts_instructions, instructions, most_memory, the_program
+from formats import module, symbol
+from measure import NOP, Folder, best, counts_instructions, instructions, most_memory, the_program
 
 WORDS = 4_096
 LABELS = 78
@@ -36,29 +37,19 @@ def lines(number, count):
     return start + code + "addq $1,$2,$3\n" * (WORDS - WORDS // LABELS * LABELS)
 
 
-def symbol(section, name, offset=0):
-    return struct.pack("<BHI", section, len(name), offset) + name
-
-
-def module(code, data, symbols, relocations):
-    """The bytes of a module with these parts."""
-    numbers = struct.pack("<5I", len(code) // 4, len(data), 0, len(symbols), len(relocations))
-    return b"ALPHAOB1" + numbers + code + data + b"".join(symbols) + b"".join(relocations)
-
-
 def many_names(size):
     """A module of so many bytes, with all the words and data that one may have: the rest are names of 1,024 bytes."""
-    code, data = struct.pack("<I", NOP) * 262_144, bytes(16 * MEBIBYTE)
-    count = (size - 28 - len(code) - len(data)) // 1_031
+    words, data = [NOP] * 262_144, bytes(16 * MEBIBYTE)
+    count = (size - 28 - 4 * len(words) - len(data)) // 1_031
     names = [symbol(0, b"n%01023d" % n) for n in range(count - 1)] + [symbol(0, b"start")]
-    return module(code, data, names, [])
+    return module(words, data, names)
 
 
 def short_names(size, number=0):
     """A module of so many bytes, nearly all of them symbols of nine letters; the first of several has the entry."""
     count = (size - 64) // 16
     names = [symbol(0, b"n%02d%06x" % (number, n)) for n in range(count)]
-    return module(struct.pack("<I", NOP), b"", names + ([] if number else [symbol(0, b"start")]), [])
+    return module([NOP], b"", names + ([] if number else [symbol(0, b"start")]))
 
 
 def letters(number, count):
@@ -77,29 +68,22 @@ def names_of(size, count, number, undefined):
     names = [(letters(number * many + n, count), 0) for n in range(many)]
     if number == 0:
         names += [(b"start", 0)] + ([(b"elsewhere", 2)] if undefined else [])
-    return module(struct.pack("<I", NOP), b"", [symbol(section, name) for name, section in sorted(names)], [])
+    return module([NOP], b"", [symbol(section, name) for name, section in sorted(names)])
 
 
 def quadwords(size):
     """A module of so many bytes, nearly all of them quadwords with the address of one label."""
     count = (size - 64) // 21
     places = [struct.pack("<BIIi", 3, 8 * n, 0, 0) for n in range(count)]
-    return module(struct.pack("<I", NOP), bytes(8 * count), [symbol(0, b"start")], places)
+    return module([NOP], bytes(8 * count), [symbol(0, b"start")], places)
 
 
-class Folder:
+class Links(Folder):
     """Files of modules, and the image that they link to."""
 
     def __init__(self, program, folder):
-        self.program, self.folder = program, folder
-
-    def path(self, name):
-        return os.path.join(self.folder, name)
-
-    def keep(self, name, contents):
-        with open(self.path(name), "wb") as file:
-            file.write(contents)
-        return self.path(name)
+        super().__init__(folder)
+        self.program = program
 
     def run(self, *words):
         subprocess.run([self.program, *words], check=True)
@@ -149,7 +133,7 @@ def many_short(folder, count, size):
 def many_names_of(folder, files, size, count):
     """The memory of so many modules of so many bytes, with names of so many letters, in times these files."""
     least = most_memory([folder.program, "link", folder.path("least"), folder.keep("small", short_names(64))])
-    other = folder.keep("other", module(struct.pack("<I", NOP), b"", [symbol(0, b"elsewhere")], []))
+    other = folder.keep("other", module([NOP], b"", [symbol(0, b"elsewhere")]))
     paths = [folder.keep(f"s{number}", names_of(size, count, number, False)) for number in range(files)]
     times = []
     for undefined in (False, True):
@@ -179,10 +163,9 @@ def all_names(folder):
 def orders(folder):
     """What a symbol that another module defines takes, wherever that module stands."""
     names = [b"shared_by_all%05d" % number for number in range(SHARED)]
-    word = struct.pack("<I", NOP)
-    definer = folder.keep("definer", module(word, b"", [symbol(0, name) for name in [*names, b"start"]], []))
-    user = folder.keep("user", module(word, b"", [symbol(2, name) for name in names], []))
-    empty = folder.keep("empty", module(word, b"", [], []))
+    definer = folder.keep("definer", module([NOP], b"", [symbol(0, name) for name in [*names, b"start"]]))
+    user = folder.keep("user", module([NOP], b"", [symbol(2, name) for name in names]))
+    empty = folder.keep("empty", module([NOP], b"", []))
 
     def each(*files):
         command = [folder.program, "link", folder.path("image"), *files]
@@ -202,11 +185,22 @@ def orders(folder):
         print(f"{what}: {taken:,.0f} instructions a symbol, {taken / first:.2f} times", flush=True)
 
 
+def large(folder):
+    """Modules of 5 and 20 MiB, one alone and many."""
+    for size, make, kind in ((5, short_names, "short names"), (5, quadwords, "quadwords"),
+                             (20, many_names, "most code and data"), (20, short_names, "short names"),
+                             (20, quadwords, "quadwords")):
+        file = folder.keep("module", make(size * MEBIBYTE))
+        folder.sized(f"a module of {size} MiB, {kind}", [file], os.path.getsize(file), "byte")
+    for count, size in ((16, 5), (64, 1)):
+        many_short(folder, count, size)
+
+
 def main():
     alone = sys.argv[1] if sys.argv[1:2] in (["names"], ["order"]) else None
     program = the_program(sys.argv[2:] if alone else None)
     with tempfile.TemporaryDirectory() as name:
-        folder = Folder(program, name)
+        folder = Links(program, name)
         if alone != "names" and counts_instructions():
             orders(folder)
         if alone != "order":
@@ -215,15 +209,7 @@ def main():
             return
         for count in (4, 16, 64):
             many(folder, count)
-        for size in (5, 20):
-            for make, kind in ((many_names, "most code and data"), (short_names, "short names"),
-                               (quadwords, "quadwords")):
-                if make is many_names and size < 20:
-                    continue
-                file = folder.keep("module", make(size * MEBIBYTE))
-                folder.sized(f"a module of {size} MiB, {kind}", [file], os.path.getsize(file), "byte")
-        for count, size in ((16, 5), (64, 1)):
-            many_short(folder, count, size)
+        large(folder)
 
 
 if __name__ == "__main__":

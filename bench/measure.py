@@ -75,6 +75,26 @@ def no_triggers():
     return repeated([NOP, load(0), operate(0x10, 0x20, 3, 4, 5), store(8), NOP, branch(0)])
 
 
+def read(path):
+    with open(path, "rb") as file:
+        return file.read()
+
+
+class Folder:
+    """The files of a folder, by their names in it."""
+
+    def __init__(self, folder):
+        self.folder = folder
+
+    def path(self, name):
+        return os.path.join(self.folder, name)
+
+    def keep(self, name, contents):
+        with open(self.path(name), "wb") as file:
+            file.write(contents)
+        return self.path(name)
+
+
 def the_program(words=None):
     words = sys.argv[1:] if words is None else words
     program = words[0] if words else os.path.join(TOP, "crates/alpha_tool/out/alpha_tool")

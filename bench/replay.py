@@ -6,11 +6,11 @@ Then the most memory of a replay of the largest journal: 1,048,576 items, and 8 
     bench/replay.py [PROGRAM]
 """
 import os
-import struct
 import subprocess
 import sys
 import tempfile
 
+from formats import journal, wait
 from measure import best, counts_instructions, file_of, image, instructions, most_memory, the_program
 from run import LOOPS
 
@@ -50,8 +50,8 @@ def measure(program, name, file, folder):
 
 def largest():
     """A journal of that size whose items are no run, and its image: each has its memory before the first step."""
-    front = struct.pack("<8sBBQQIII", b"ALPHAJR1", 0, 0, 0, 0, MOST_BYTES, MOST_BYTES, MOST_ITEMS)
-    return front + bytes(2 * MOST_BYTES) + struct.pack("<BBQ", 2, 1, 9) * MOST_ITEMS
+    most = bytes(MOST_BYTES)
+    return journal([wait(9, 1)] * MOST_ITEMS, MOST_ITEMS, most, most)
 
 
 def main():
@@ -60,11 +60,11 @@ def main():
         for name, code in LOOPS.items():
             with file_of(image(code)) as file:
                 measure(program, name, file.name, folder)
-    journal = largest()
-    with file_of(image(LOOPS["loads"])) as file, file_of(journal) as kept:
+    contents = largest()
+    with file_of(image(LOOPS["loads"])) as file, file_of(contents) as kept:
         memory = most_memory([program, "replay", file.name, kept.name])
-        print(f"the largest journal: {len(journal) / 1e6:.1f} MB, memory {memory / 1e6:.1f} MB, "
-              f"{memory / len(journal):.2f} of the file")
+        print(f"the largest journal: {len(contents) / 1e6:.1f} MB, memory {memory / 1e6:.1f} MB, "
+              f"{memory / len(contents):.2f} of the file")
 
 
 if __name__ == "__main__":

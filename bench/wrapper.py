@@ -21,8 +21,8 @@ import tempfile
 import time
 
 import pages
+from measure import TOP, read
 
-TOP = os.path.dirname(os.path.dirname(os.path.abspath(__file__)))
 FAILED = 70
 COMMANDS = "check dis asm fix module link run record replay debug trial".split()
 CALLED = "sh dirname readlink find sort xargs sha256sum cmp cat sed python3".split()
@@ -89,11 +89,6 @@ def small_repository(folder):
 def write(path, text):
     with open(path, "w", encoding="utf-8") as file:
         file.write(text)
-
-
-def read(path):
-    with open(path, "rb") as file:
-        return file.read()
 
 
 def call(command, stdin=subprocess.DEVNULL, **how):
@@ -299,6 +294,8 @@ def try_first(room, real):
 
 
 def main(parts):
+    if set(parts) - {"alpha", "look", "first"}:
+        sys.exit(__doc__)
     # Where this was started in the background interruptions are ignored, and all that it starts would ignore them too.
     signal.signal(signal.SIGINT, signal.default_int_handler)
     for part in parts or ("alpha", "look", "first"):
