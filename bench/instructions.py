@@ -15,6 +15,7 @@ import struct
 import subprocess
 import sys
 import tempfile
+import typing
 
 from measure import TOP, the_program
 from worked import (BRANCHES, CELLS, COUNTING, DATA, FEATURES, JUMPS, LETTERS, MEMORY, MISC, OPERATES, OPERATE_WORDS,
@@ -53,12 +54,17 @@ def table():
     return rows
 
 
-class Worked:
+class Worked(typing.NamedTuple):
     """A line at 0x10000, what registers and memory have before it, and what is there behind it."""
 
-    def __init__(self, line, before, after, pc=PLACE + 4, memory=None, first=(), end=None, saturated=None):
-        self.line, self.before, self.after, self.pc = line, before, after, pc
-        self.memory, self.first, self.end, self.saturated = memory, first, end, saturated
+    line: str
+    before: dict
+    after: dict
+    pc: int = PLACE + 4
+    memory: tuple = None
+    first: tuple = ()
+    end: str = None
+    saturated: int = None
 
 
 def operate_worked(name, level):

@@ -26,7 +26,7 @@ import tempfile
 import time
 
 import programs
-from measure import TOP
+from measure import TOP, Folder
 
 sys.dont_write_bytecode = True
 COMPANIONS = os.path.join(TOP, "companions")
@@ -103,20 +103,18 @@ def be_companion(name, words, notes):
         os._exit(status)
 
 
-class Trial:
+class Trial(Folder):
     """A program at a level, in a folder of its own."""
 
     def __init__(self, program, folder, number, level):
-        self.program, self.folder = program, folder
+        super().__init__(folder)
+        self.program = program
         shutil.copy(os.path.join(COMPANIONS, "data/io.h"), folder)
         with open(self.path("p.c"), "w", encoding="ascii") as file:
             file.write(programs.program(number))
         call(*COMPILE, f"-O{level}", "-S", self.path("p.c"), "-o", self.path("p.s"))
         self.link("p.s", "p.elf")
         self.wanted = outcome(self.path("p.elf"))
-
-    def path(self, name):
-        return os.path.join(self.folder, name)
 
     def companion(self, name, *words):
         """Runs a companion in a process of its own, in which its parts are loaded already."""
@@ -144,9 +142,7 @@ class Trial:
         self.companion("elf2image", self.path("p.elf"), self.path("p.img"), "--map", self.path("p.map"))
         listing = call(self.program, "dis", self.path("p.img"))
         labelled = call("awk", "-f", os.path.join(TOP, "examples/labels.awk"), given=listing)
-        with open(self.path("list.s"), "wb") as file:
-            file.write(labelled)
-        self.companion("shadowfix", "--aside", "--map", self.path("p.map"), self.path("list.s"), "-o",
+        self.companion("shadowfix", "--aside", "--map", self.path("p.map"), self.keep("list.s", labelled), "-o",
                        self.path("aside.s"))
         call(self.program, "asm", self.path("aside.s"), self.path("aside.img"))
         self.companion("same", self.path("p.img"), self.path("aside.img"), "--symbols", self.path("p.map"))
@@ -182,7 +178,7 @@ def tried(trial):
         return found
 
 
-def main():
+def parse_arguments():
     parser = argparse.ArgumentParser(description=__doc__, formatter_class=argparse.RawDescriptionHelpFormatter)
     parser.add_argument("program", nargs="?", default=os.path.join(TOP, "crates/alpha_tool/out/alpha_tool"))
     parser.add_argument("--count", type=int, default=20)
@@ -191,14 +187,14 @@ def main():
     parser.add_argument("--jobs", type=int, default=2)
     parser.add_argument("--keep")
     parser.add_argument("--seconds", type=float, default=float("inf"))
-    options = parser.parse_args()
-    missing = [name for name in (COMPILE[0], "qemu-alpha") if shutil.which(name) is None]
-    if missing:
-        sys.exit(f"there is no {missing[0]} on the path")
-    counts = collections.Counter()
+    return parser.parse_args()
+
+
+def count_repairs(options):
+    """How many programs at a level were tried, and how many by level and way came to what."""
+    counts, done, started = collections.Counter(), 0, time.monotonic()
     trials = [(os.path.abspath(options.program), number, level, options.keep)
               for number in range(options.first, options.first + options.count) for level in options.levels.split(",")]
-    started, done = time.monotonic(), 0
     with multiprocessing.Pool(options.jobs, load_parts) as pool:
         for (_, number, level, _), found in zip(trials, pool.imap(tried, trials)):
             done += 1
@@ -208,6 +204,15 @@ def main():
                     print(f"program {number} at -O{level}, {way}: {what}", flush=True)
             if time.monotonic() - started > options.seconds:
                 break
+    return done, counts
+
+
+def main():
+    options = parse_arguments()
+    missing = [name for name in (COMPILE[0], "qemu-alpha") if shutil.which(name) is None]
+    if missing:
+        sys.exit(f"there is no {missing[0]} on the path")
+    done, counts = count_repairs(options)
     print(f"\n{done} programs at a level, from {options.first} on\n")
     print("| Level | Way | What became of the programs | Count |\n|---|---|---|---|")
     for (level, way, what), count in sorted(counts.items()):
