@@ -81,7 +81,9 @@ def usage_of(command):
         yield from options(of_run)
 
 
-def main(name, command="", *_):
+def main(name=None, command="", *_):
+    if name is None:
+        sys.exit(__doc__.strip())
     lines = [*(usage_of(command) if command else usage(name))]
     if not lines:
         print(f"{name}: there is no command {command}: ./{name} help names all", file=sys.stderr)
