@@ -1,5 +1,6 @@
 #!/usr/bin/env python3
-"""Holds the pages (README.md and its like at the top, docs/, examples/) against the program and the repository:
+"""Holds the pages (those at the top, of companions/, conformance/, docs/ and examples/) against the program and the
+repository:
 
 - Each `console` block is run, and what its commands write and how they end must be what the block shows. A line that
   begins with `$ ` is a command, one with `> ` goes on with it, all others are what it writes, standard error among it;
@@ -24,6 +25,7 @@ import tempfile
 from measure import TOP, the_program
 
 SECONDS = 60
+PAGES = ("*.md", "companions/**/*.md", "conformance/**/*.md", "docs/**/*.md", "examples/**/*.md")
 # How the last line that a command writes tells its status; other lines tell 0.
 TOLD = [
     (1, r"broken trigger "),
@@ -216,8 +218,7 @@ def main():
     program = os.path.abspath(the_program([words.pop(0)] if words and not words[0].endswith(".md") else []))
     # A program that builds itself, as ./alpha, does so here, before a command is timed.
     subprocess.run([program, "trial", "1"], stdin=subprocess.DEVNULL, stdout=subprocess.DEVNULL, check=False)
-    paths = sorted(os.path.relpath(it, TOP) for part in ("*.md", "docs/**/*.md", "examples/**/*.md")
-                   for it in glob.glob(f"{TOP}/{part}", recursive=True))
+    paths = sorted(os.path.relpath(it, TOP) for part in PAGES for it in glob.glob(f"{TOP}/{part}", recursive=True))
     pages, crates, counts = {path: Page(path) for path in paths}, crates_in(), Counts()
     for path, page in pages.items():
         if words and path not in words:
