@@ -15,3 +15,5 @@ pub mod StatementCells
 pub mod RefusedReading
 pub mod ModuleLines
 pub mod Levels
+pub mod KnownLines
+pub mod Gathered

@@ -83,11 +83,11 @@ abbrev pub kinds_in : List ℕ → List LineKind
 kinds_in source = kinds_of (map item_at (lines source))
 
 pub kinds_go_on : (first old new : List LineKind) (source rest line more : List ℕ) → lines rest ≡ line ∷ lines more
-    → new ≡ old ++ line_kind (item_at line).statement ∷ []
+    → new ≡ old ++ line_kind (item_at line) ∷ []
     → old ++ kinds_in rest ≡ first ++ kinds_in source → new ++ kinds_in more ≡ first ++ kinds_in source
 kinds_go_on first old new source rest line more e pushed all =
     ap (λ ks. ks ++ kinds_in more) pushed
-    ∙ append_assoc old (line_kind (item_at line).statement ∷ []) (kinds_in more)
+    ∙ append_assoc old (line_kind (item_at line) ∷ []) (kinds_in more)
     ∙ sym (ap (λ ls. old ++ kinds_of (map item_at ls)) e) ∙ all
 
 pub kinds_end : (first old : List LineKind) (source rest : List ℕ) → length rest ≡ 0

@@ -12,4 +12,5 @@ pub mod Bases
 pub mod Finished
 pub mod Data
 pub mod LineKinds
+pub mod KnownLines
 pub mod Symbols

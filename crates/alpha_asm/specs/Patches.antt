@@ -7,6 +7,7 @@ use Rattle.alpha_words.specs.Digits.{low_bytes}
 use Rattle.alpha_table.specs.declared.form.Form.{Form}
 use Rattle.alpha_table.specs.Row.{IsSigned}
 use Rattle.alpha_operands.specs.declared.values.Expr.{Expr}
+use Rattle.alpha_text.specs.Reading.{LineStmt}
 use Rattle.alpha_text.specs.Statements.{Stmt}
 use Rattle.alpha_asm.specs.declared.statement.InsnStmt.{InsnStmt as CodedHere}
 use Rattle.alpha_asm.specs.declared.fields.Entry.{Entry as EntryHere}
@@ -59,6 +60,10 @@ fix_of p = fix (offset_of p.at p.target) (name p.line (reference_of p.to) (targe
 -- the instruction of a statement, and its data bytes, before addresses are put in
 abbrev pub raw_insns : Stmt → List Form
 raw_insns s = option_map_or (λ c. c.insn ∷ []) (coded s) []
+
+-- those of items
+abbrev pub insns_of : List LineStmt → List Form
+insns_of is = flat_map (λ i. raw_insns i.statement) is
 
 abbrev pub raw_cell : Cell → List ℕ
 raw_cell (number bytes value) = low_bytes bytes value

@@ -2,7 +2,8 @@
 //!
 //! - [`assemble`] gives the image of a source, or the first refusal, an [`AsmFault`].
 //! - [`assemble_with_symbols`] gives beside the image what is gathered of its source, [`Symbols`]: which labels name
-//!   words of the code, and what each line is to whoever puts instructions before it, a [`LineKind`].
+//!   words of the code, what each line is to whoever puts instructions before it, a [`LineKind`], and the instructions.
+//! - [`assemble_known`] gives what `assemble` gives of a source of which some lines are known, and doesn't read these.
 //! - [`laws_of_sources`] says by the relations of the line grammar what the lines, the lists and the texts
 //!   of a source are read as.
 //! - [`Unlinked`] is what the source of a module makes: instructions, data bytes, labels, and the
@@ -36,8 +37,8 @@
 //! source or its first refusal; `specs/SourceLines.antt` has the lines of a source with their ends. None of
 //! them knows of a pass or a patch; `specs/Patches.antt` and `specs/Pass.antt` say what the state of the pass is, and
 //! `specs/Finished.antt` what it comes to;
-//! `specs/Labels.antt`, `specs/Unlinked.antt`, `specs/Symbols.antt` and `specs/LineKinds.antt` what other
-//! crates get of it.
+//! `specs/Labels.antt`, `specs/Unlinked.antt`, `specs/Symbols.antt`, `specs/LineKinds.antt` and
+//! `specs/KnownLines.antt` what other crates get of it.
 #![tactic(auto)]
 
 mod assembler;
@@ -46,6 +47,7 @@ mod data;
 mod fault;
 mod fields;
 mod kind;
+mod known_lines;
 mod label;
 mod labels;
 mod laws;
@@ -64,6 +66,7 @@ pub use assembler::assemble;
 pub use bases::{put_insn, put_quad};
 pub use fault::AsmFault;
 pub use kind::SourceKind;
+pub use known_lines::assemble_known;
 pub use label::Labels;
 pub use laws::laws_of_sources;
 pub use line_kind::LineKind;

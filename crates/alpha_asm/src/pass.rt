@@ -1,9 +1,10 @@
 ghost use Rattle.std.specs.Prelude.{◌≡◌, ◌≢◌, ◌+◌, ◌^◌, ◌<◌, ◌++◌, ◌∷◌, ℕ, true, false, List, [], Some, None, OnOk};
-ghost use Rattle.std.specs.Prelude.{IfOk, IfErr, length, take, ◌≤◌};
+ghost use Rattle.std.specs.Prelude.{IfOk, IfErr, IfSome, length, take, ◌≤◌};
+ghost use Rattle.alpha_operands.specs.Operands.{Gives};
 ghost use Rattle.std.specs.Option.{option_map};
 ghost use Rattle.alpha_text.specs.Statements.{stmt_of};
 ghost use Rattle.alpha_text.specs.Bounds.{IsWithin};
-ghost use Rattle.alpha_text.specs.Reading.{line_stmt_of};
+ghost use Rattle.alpha_text.specs.Reading.{line_stmt_of, read};
 ghost use Rattle.alpha_quick.specs.Parts.{unlabelled, nothing_said};
 ghost use Rattle.alpha_quick.specs.Prescanned.{IsPrescanned};
 ghost use Rattle.alpha_asm.specs.Statement.{cells, coded};
@@ -25,13 +26,13 @@ use crate::line_kind::LineKinds;
 use crate::output::{Output, push_entry};
 use crate::place::Place;
 use crate::statement::{InsnStmt, insn_stmt_in, is_statement};
-use alpha_quick::{Prescanned, read_canonical};
+use alpha_quick::{Prescanned, read_canonical, read_line};
 use alpha_table::Insn;
-use alpha_text::{Item, Statement};
+use alpha_text::{Item, LineFault, Statement};
 use std::alloc::{AllocError, Global};
 
 /// The most bytes of a line without its end.
-const LONGEST_LINE: usize = 1024;
+pub(crate) const LONGEST_LINE: usize = 1024;
 
 /// What is known of a source behind some of its lines.
 #[derive(Drop)]
@@ -42,6 +43,19 @@ pub(crate) struct Pass<'a> {
     pub output: Output<'a>,
     pub labels: Labels<'a>,
     pub fields: FieldsRead<'a>,
+}
+
+// The item of a line, which may have been read in part.
+#[inline(always)]
+fn item_of<'a>(line: &'a [u8], rest: Option<&Prescanned<'a>>) -> Result<Item<'a>, LineFault>
+    requires read { IfSome rest (λ r. IsPrescanned line.now r.now) }
+    requires size { length line.now ≤ 1024 }
+    ensures { Gives line_stmt_of result (read line.now) }
+{
+    match rest {
+        Some(prescanned) => prescanned.item(line),
+        None => read_line(line),
+    }
 }
 
 impl<'a> Pass<'a> {
@@ -86,7 +100,7 @@ impl<'a> Pass<'a> {
         ensures line { OnOk result (self.new.line ≡ self.old.line + 1) }
         ensures gathers { kinds.new.gathers ≡ kinds.old.gathers }
         ensures kinds { OnOk result (kinds.old.gathers ≡ true → kinds.new.items.items
-            ≡ kinds.old.items.items ++ line_kind (item_at line.entry.now).statement ∷ []) }
+            ≡ kinds.old.items.items ++ line_kind (item_at line.entry.now) ∷ []) }
     {
         if line.len() > LONGEST_LINE {
             return Err(AsmFault::LongLine(self.line + 1));
@@ -101,7 +115,7 @@ impl<'a> Pass<'a> {
                     self.take_blank();
                     Ok(kinds.push_blank()?)
                 } else {
-                    self.take_rest(kind, line, &rest, kinds)
+                    self.take_rest(kind, line, Some(&rest), kinds)
                 }
             }
         }
@@ -119,19 +133,19 @@ impl<'a> Pass<'a> {
         self.line += 1;
     }
 
-    // Goes over the next line where no instruction alone was read of it. It is a call of its own, so that what a line
-    // may say beside an instruction has a place on the stack for such lines only.
+    // Goes over the next line where no instruction alone was read of it, as far as it was read. It is a call of its
+    // own, so that what a line may say beside an instruction has a place on the stack for such lines only.
     #[inline(never)]
-    fn take_rest(
+    pub(crate) fn take_rest(
         &mut self,
         kind: SourceKind,
         line: &'a [u8],
-        rest: &Prescanned<'a>,
+        rest: Option<&Prescanned<'a>>,
         kinds: &mut LineKinds,
     ) -> Result<(), AsmFault>
         requires bounded { IsBounded self.old }
         requires lines { self.old.line + 1 < 2 ^ 32 }
-        requires read { IsPrescanned line.now rest.now }
+        requires read { IfSome rest (λ r. IsPrescanned line.now r.now) }
         requires size { length line.now ≤ 1024 }
         ensures ok { OnOk result ((is : _) → PassSimulates is self.old
             → PassSimulates (is ++ item_at line.entry.now ∷ []) self.new) }
@@ -143,11 +157,11 @@ impl<'a> Pass<'a> {
         ensures line { OnOk result (self.new.line ≡ self.old.line + 1) }
         ensures gathers { kinds.new.gathers ≡ kinds.old.gathers }
         ensures kinds { OnOk result (kinds.old.gathers ≡ true → kinds.new.items.items
-            ≡ kinds.old.items.items ++ line_kind (item_at line.entry.now).statement ∷ []) }
+            ≡ kinds.old.items.items ++ line_kind (item_at line.entry.now) ∷ []) }
     {
-        match rest.item(line) {
+        match item_of(line, rest) {
             Ok(item) => match self.take_item(kind, &item) {
-                Ok(()) => Ok(kinds.push(&item.statement)?),
+                Ok(()) => Ok(kinds.push(&item)?),
                 Err(fault) => Err(fault),
             },
             Err(fault) => Err(AsmFault::Line(self.line + 1, fault)),
@@ -180,7 +194,7 @@ impl<'a> Pass<'a> {
 
     // Goes over an instruction without a label.
     #[inline(always)]
-    fn take_code(&mut self, insn: &Insn) -> Result<(), AsmFault>
+    pub(crate) fn take_code(&mut self, insn: &Insn) -> Result<(), AsmFault>
         requires bounded { IsBounded self.old }
         requires lines { self.old.line + 1 < 2 ^ 32 }
         ensures ok { OnOk result (AddsItem (unlabelled insn.now) self.old self.new) }

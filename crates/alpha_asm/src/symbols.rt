@@ -2,6 +2,7 @@ ghost use Rattle.std.specs.Prelude.{◌≡◌, ◌≢◌, ◌<◌, ◌^◌, leng
 ghost use Rattle.std.specs.Str.Lines.{lines};
 ghost use Rattle.alpha_asm.specs.Layout.{layout, location_of, is_of_code};
 ghost use Rattle.alpha_asm.specs.LineKinds.{kinds_of};
+ghost use Rattle.alpha_asm.specs.Patches.{insns_of};
 ghost use Rattle.alpha_asm.specs.Program.{program_of};
 ghost use Rattle.alpha_asm.specs.Assembled.{item_at, assembled};
 ghost use Rattle.alpha_asm.specs.declared.fault.AsmFault.TheVariants as faults;
@@ -14,16 +15,18 @@ use crate::line_kind::{LineKind, LineKinds};
 use crate::place::LabelLocation;
 use crate::program::assemble_program;
 use alpha_image::Image;
+use alpha_table::Insn;
 use std::alloc::Global;
 use std::marker::Model;
 
-/// What is gathered of a source that has an image: its labels and the kinds of its lines. A clause sees the
-/// source.
+/// What is gathered of a source that has an image: its labels, the kinds of its lines, and its instructions. A clause
+/// sees the source.
 #[derive(Drop)]
 pub struct Symbols<'a> {
     source: &'a [u8],
     labels: Labels<'a>,
     kinds: Vec<LineKind>,
+    code: Vec<Insn>,
 }
 
 impl<'a> Model for Symbols<'a> {
@@ -55,6 +58,7 @@ pub fn assemble_with_symbols<'a>(
 {
     let mut kinds = LineKinds::new(alloc);
     let pass = read_lines(alloc, SourceKind::Program, source, &mut kinds)?;
+    let code = Vec::from_slice(alloc, &pass.output.code)?;
     let (image, labels) = assemble_program(pass)?;
     let kinds = kinds.items;
     Ok((
@@ -63,6 +67,7 @@ pub fn assemble_with_symbols<'a>(
             source,
             labels,
             kinds,
+            code,
         },
     ))
 }
@@ -83,5 +88,12 @@ impl<'a> Symbols<'a> {
         ensures { result.now ≡ kinds_of (map item_at (lines self.now)) }
     {
         &self.kinds
+    }
+
+    /// The instructions of the lines. Those that are to reach an address have displacement 0.
+    pub fn code(&self) -> &[Insn]
+        ensures { result.now ≡ insns_of (map item_at (lines self.now)) }
+    {
+        &self.code
     }
 }

@@ -84,12 +84,12 @@ role_fixed true b e = refl
 role_fixed false true e = cc
 role_fixed false false e = cc
 
-role_insn : (a b : Bool) → Insn ≡ role a b → (a ≡ false) × (b ≡ true)
+pub role_insn : (a b : Bool) → Insn ≡ role a b → (a ≡ false) × (b ≡ true)
 role_insn true b e = cc
 role_insn false true e = (refl, refl)
 role_insn false false e = cc
 
-role_other : (a b : Bool) → Other ≡ role a b → (a ≡ false) × (b ≡ false)
+pub role_other : (a b : Bool) → Other ≡ role a b → (a ≡ false) × (b ≡ false)
 role_other true b e = cc
 role_other false true e = cc
 role_other false false e = (refl, refl)
@@ -261,6 +261,63 @@ module _ (source cuts : List ℕ) (words base : ℕ) (rest text left : List ℕ)
         read = read_on;
         size = omega arith;
       }
+
+  -- the lines with barriers that begin with the line in hand
+  lines_here : fixed_lines (is_cut cuts) words place (source_lines rest)
+      ≡ cond (has_insn item_here)
+      (bar_if (is_cut cuts place) trapb_line
+      ++ (then_bar (nat_eq (place + 1) words && is_cut cuts words) f.line
+      ++ fixed_lines (is_cut cuts) words (place + 1) (source_lines l.rest.now)))
+      (f.line ∷ fixed_lines (is_cut cuts) words place (source_lines l.rest.now))
+  lines_here =
+      ap (fixed_lines (is_cut cuts) words place) f.lines
+      ∙ ap (λ b. cond b
+      (bar_if (is_cut cuts place) trapb_line
+      ++ (then_bar (nat_eq (place + 1) words && is_cut cuts words) f.line
+      ++ fixed_lines (is_cut cuts) words (place + 1) (source_lines l.rest.now)))
+      (f.line ∷ fixed_lines (is_cut cuts) words place (source_lines l.rest.now))) (sym word_here)
+
+  pub word_lines : (before behind : Bool) (later : List ℕ)
+      → Insn ≡ role (depends_on_position (names_code (items_of symbols)) base item_here.statement) (has_insn item_here)
+      → before ≡ is_cut left place
+      → ((k : ℕ) → place < k → is_cut left k ≡ is_cut later k)
+      → behind ≡ (nat_eq (place + 1) words && is_cut later words)
+      → fixed_lines (is_cut cuts) words place (source_lines rest)
+      ≡ bar_if before trapb_line
+      ++ (then_bar behind f.line ++ fixed_lines (is_cut cuts) words (place + 1) (source_lines l.rest.now))
+  word_lines before behind later e b more h =
+      let (free, t) =
+      role_insn (depends_on_position (names_code (items_of symbols)) base item_here.statement) (has_insn item_here) e in
+      let low : place < words = insn_place-below e in
+      let here : before ≡ is_cut cuts place = b ∙ sym (u.cut place (omega arith)) in
+      let last : is_cut later words ≡ is_cut cuts words = sym (u.cut words (omega arith) ∙ more words low) in
+      let there : behind ≡ (nat_eq (place + 1) words && is_cut cuts words) =
+      h ∙ ap (λ c. nat_eq (place + 1) words && c) last in
+      lines_here
+      ∙ (ap (λ x. cond x
+      (bar_if (is_cut cuts place) trapb_line
+      ++ (then_bar (nat_eq (place + 1) words && is_cut cuts words) f.line
+      ++ fixed_lines (is_cut cuts) words (place + 1) (source_lines l.rest.now)))
+      (f.line ∷ fixed_lines (is_cut cuts) words place (source_lines l.rest.now))) t
+      ∙ (ap (λ x. bar_if x trapb_line
+      ++ (then_bar (nat_eq (place + 1) words && is_cut cuts words) f.line
+      ++ fixed_lines (is_cut cuts) words (place + 1) (source_lines l.rest.now))) (sym here)
+      ∙ ap (λ x. bar_if before trapb_line
+      ++ (then_bar x f.line ++ fixed_lines (is_cut cuts) words (place + 1) (source_lines l.rest.now))) (sym there)))
+
+  pub other_lines : Other
+      ≡ role (depends_on_position (names_code (items_of symbols)) base item_here.statement) (has_insn item_here)
+      → fixed_lines (is_cut cuts) words place (source_lines rest)
+      ≡ f.line ∷ fixed_lines (is_cut cuts) words place (source_lines l.rest.now)
+  other_lines e =
+      let (free, t) = role_other (depends_on_position (names_code (items_of symbols)) base item_here.statement)
+      (has_insn item_here) e in
+      lines_here
+      ∙ ap (λ x. cond x
+      (bar_if (is_cut cuts place) trapb_line
+      ++ (then_bar (nat_eq (place + 1) words && is_cut cuts words) f.line
+      ++ fixed_lines (is_cut cuts) words (place + 1) (source_lines l.rest.now)))
+      (f.line ∷ fixed_lines (is_cut cuts) words place (source_lines l.rest.now))) t
 
 empty-from_length : (xs : List ℕ) → length xs ≡ 0 → xs ≡ []
 empty-from_length [] h = refl

@@ -13,3 +13,4 @@ pub mod FixAnswers
 pub mod FixedSources
 pub mod CutExistence
 pub mod LineRoles
+pub mod KnownLines

@@ -55,6 +55,9 @@ canon-trapb : canon (Misc Trapb) ≡ codes "trapb"
 unfolding canon
 canon-trapb = refl
 
+pub read_trapb : read (codes "trapb") ≡ Ok trapb_item
+read_trapb = ap read (sym canon-trapb) ∙ reads_back (Misc Trapb) tt
+
 pub line_item-trapb_line : line_item trapb_line ≡ trapb_item
 line_item-trapb_line =
     ap (λ r. result_unwrap_or r (record { label = None; statement = empty }))

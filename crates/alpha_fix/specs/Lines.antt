@@ -1,5 +1,5 @@
 -- What a line is to the barriers, and why none are put in.
-use Rattle.std.specs.Prelude.{◌≡◌, ℕ, List, Some, Bool, true, false}
+use Rattle.std.specs.Prelude.{◌≡◌, ℕ, List, [], ◌∷◌, Option, None, Some, Bool, true, false}
 use Rattle.alpha_fix.specs.declared.barriers.Role.{Role}
 use Rattle.alpha_fix.specs.declared.barriers.Role.TheVariants.{FixedLine, Insn, Other}
 use Rattle.alpha_fix.specs.declared.fault.FixFault.{FixFault}
@@ -11,6 +11,12 @@ abbrev pub role : Bool → Bool → Role
 role true insn = FixedLine
 role false true = Insn
 role false false = Other
+
+-- what is known of a line with a barrier behind it if there is to be one
+abbrev pub known_behind : {A : Type 0} → Option A → Bool → Bool → Option A → List (Option A)
+known_behind bar true true insn = insn ∷ bar ∷ []
+known_behind bar true false insn = None ∷ bar ∷ []
+known_behind bar false ended insn = insn ∷ []
 
 -- why barriers aren't put into a source
 abbrev pub Hinders : List ℕ → FixFault → Type 0

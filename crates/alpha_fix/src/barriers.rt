@@ -1,10 +1,13 @@
 ghost use Rattle.std.specs.Prelude.{◌≡◌, ◌+◌, ◌<◌, ◌≤◌, ◌^◌, ◌++◌, ◌∷◌, ◌==◌, ◌&&◌, ℕ, List, [], length, is_some, None};
-ghost use Rattle.std.specs.Prelude.{OnOk, IfOk, IfErr};
+ghost use Rattle.std.specs.Prelude.{Option, IfSome, codes, OnOk, IfOk, IfErr};
 ghost use Rattle.std.specs.List.{flat_map};
 ghost use Rattle.std.specs.Str.Lines.{lines};
 ghost use Rattle.alpha_text.specs.Statements.{stmt_of};
 ghost use Rattle.alpha_asm.specs.declared.line_kind.LineKind.{LineKind as LineKindOf};
+ghost use Rattle.alpha_asm.specs.declared.line_kind.LineKind.TheVariants as line_kinds;
+ghost use Rattle.alpha_table.specs.declared.form.Form.{Form};
 ghost use Rattle.alpha_asm.specs.LineKinds.{line_kind};
+ghost use Rattle.alpha_asm.specs.KnownLines.{IsKnown, AreKnown};
 ghost use Rattle.alpha_asm.specs.Statement.{coded};
 ghost use Rattle.alpha_asm.specs.Assembled.{item_at, first_refused};
 ghost use Rattle.alpha_asm.specs.declared.kind.SourceKind.TheVariants as source_kinds;
@@ -12,16 +15,31 @@ ghost use Rattle.alpha_fix.specs.Cuts.{Rise};
 ghost use Rattle.alpha_asm.specs.SourceLines.{SourceLine, Is, line_bytes};
 ghost use Rattle.alpha_fix.specs.FixedSource.{is_cut, has_insn, word_count, trapb_line, bar_if, then_bar, fixed_source};
 ghost use Rattle.alpha_fix.specs.FixedLines.{items_of, depends_on_position, names_code, code_base, fixed_line};
-ghost use Rattle.alpha_fix.specs.Lines.{role, Hinders};
+ghost use Rattle.alpha_fix.specs.Lines.{role, known_behind, Hinders};
 
 use crate::FixFault;
 use crate::fixed_line::depends_on_position;
 use alpha_asm::{Line, LineKind, Symbols};
+use alpha_table::{Form, Insn, MiscOp};
 use alpha_text::{Statement, read_line};
 use std::alloc::{AllocError, Global};
 
 /// The line of a barrier.
 const TRAPB: &[u8] = b"trapb\n";
+
+/// A source with barriers, and of each of its lines the instruction that it is known to say alone.
+#[derive(Drop)]
+pub(crate) struct BarredSource {
+    pub text: Vec<u8>,
+    pub known: Vec<Option<Insn>>,
+}
+
+// What the line of a barrier says.
+fn barrier() -> Option<Insn>
+    ensures { IfSome result (IsKnown (codes "trapb")) }
+{
+    Insn::of(Form::Misc(MiscOp::Trapb))
+}
 
 // Whether a statement is an instruction.
 fn is_insn(statement: &Statement<'_>) -> bool
@@ -74,13 +92,13 @@ fn role_of<'a>(symbols: &Symbols<'a>, base: u64, text: &'a [u8]) -> Role
 // What a line of a source is, by its kind. Only one that may be fixed is read again.
 fn role_here<'a>(kind: LineKind, symbols: &Symbols<'a>, base: u64, text: &'a [u8]) -> Role
     requires short { length text.now ≤ 1024 }
-    requires kind { kind ≡ line_kind (item_at text.now).statement }
+    requires kind { kind ≡ line_kind (item_at text.now) }
     ensures { let i = item_at text.now in
         result ≡ role (depends_on_position (names_code (items_of symbols.now)) base i.statement) (has_insn i) }
 {
     match kind {
         LineKind::Other => Role::Other,
-        LineKind::Insn => Role::Insn,
+        LineKind::InsnAlone | LineKind::Insn => Role::Insn,
         LineKind::PositionDependent => role_of(symbols, base, text),
     }
 }
@@ -93,6 +111,23 @@ fn first_kind(kinds: &[LineKind]) -> (LineKind, &[LineKind])
     match kinds {
         [kind, more @ ..] => (*kind, more),
         [] => (LineKind::PositionDependent, kinds),
+    }
+}
+
+// The first of some instructions if a line of this kind says it alone, and those behind it.
+fn first_insn(code: &[Insn], kind: LineKind) -> (Option<Insn>, &[Insn])
+    ensures { (first : Form) (others : List Form) → code.now ≡ first ∷ others
+        → IfSome result.0 (λ insn. (insn ≡ first) × (kind ≡ line_kinds.InsnAlone)) × (result.1.now ≡ others) }
+{
+    match code {
+        [first, more @ ..] => {
+            if kind == LineKind::InsnAlone {
+                (Some(*first), more)
+            } else {
+                (None, more)
+            }
+        }
+        [] => (None, code),
     }
 }
 
@@ -152,6 +187,31 @@ fn put_line(
     Ok(())
 }
 
+// Adds what is known of a line, with a barrier before it and behind it where there is to be one. A line feed that the
+// line gets may make a carriage return before it part of its end, so it is read again.
+fn put_known(
+    known: &mut Vec<Option<Insn>>,
+    bar: &Option<Insn>,
+    insn: Option<Insn>,
+    ended: bool,
+    before: bool,
+    after: bool,
+) -> Result<(), AllocError>
+    ensures { OnOk result (known.new.items
+        ≡ known.old.items ++ (bar_if before bar.now ++ known_behind bar.now after ended insn)) }
+{
+    if before {
+        known.push(*bar)?;
+    }
+    if after {
+        known.push(if ended { insn } else { None })?;
+        known.push(*bar)?;
+    } else {
+        known.push(insn)?;
+    }
+    Ok(())
+}
+
 /// A source of so many words, with a barrier at each of the cuts.
 ///
 /// # Errors
@@ -164,14 +224,15 @@ pub(crate) fn with_barriers<'a>(
     base: u64,
     words: u32,
     cuts: &[u32],
-) -> Result<Vec<u8>, FixFault>
+) -> Result<BarredSource, FixFault>
     requires symbols { symbols ≡ source.now }
     requires base { base ≡ code_base (items_of source.now) }
     requires words { words ≡ word_count source.now }
     requires rise { Rise 0 cuts.now }
     requires taken { first_refused source_kinds.Program [] (lines source.now) ≡ None }
     requires size { length source.now < 2 ^ 31 }
-    ensures ok { IfOk result (λ text. text.items ≡ fixed_source source.now cuts.now) }
+    ensures ok { IfOk result (λ made. made.text.items ≡ fixed_source source.now cuts.now) }
+    ensures known { IfOk result (λ made. AreKnown made.known.items (lines made.text.items)) }
     ensures free { OnOk result (fixed_line source.now ≡ None) }
     ensures refused { IfErr result (Hinders source.now) }
 {
@@ -182,6 +243,9 @@ pub(crate) fn with_barriers<'a>(
     let mut place: u32 = 0;
     let mut left = cuts;
     let mut kinds = symbols.kinds();
+    let mut code = symbols.code();
+    let mut known = Vec::with_capacity(alloc, kinds.len() + cuts.len())?;
+    let bar = barrier();
     while !rest.is_empty() {
         let line = Line::first(rest);
         let (kind, more) = first_kind(kinds);
@@ -190,15 +254,21 @@ pub(crate) fn with_barriers<'a>(
             Role::Insn => {
                 let (before, later) = take_cut(left, place);
                 let behind = ends_cut(later, place, words);
+                let (insn, unused) = first_insn(code, kind);
                 put_line(&mut text, &line, before, behind)?;
+                put_known(&mut known, &bar, insn, line.ended, before, behind)?;
                 place += 1;
                 left = later;
+                code = unused;
             }
-            Role::Other => put_line(&mut text, &line, false, false)?,
+            Role::Other => {
+                put_line(&mut text, &line, false, false)?;
+                put_known(&mut known, &bar, None, line.ended, false, false)?;
+            }
         }
         rest = line.rest;
         kinds = more;
         number += 1;
     }
-    Ok(text)
+    Ok(BarredSource { text, known })
 }

@@ -1,13 +1,16 @@
 ghost use Rattle.std.specs.Prelude.{◌≡◌, ◌≢◌, ◌<◌, ◌^◌, [], length, Ok, OnOk, IfOk, IfErr};
 ghost use Rattle.alpha_asm.specs.Program.{program_of};
+ghost use Rattle.std.specs.Str.Lines.{lines};
+ghost use Rattle.alpha_asm.specs.KnownLines.{AreKnown};
 ghost use Rattle.alpha_asm.specs.Assembled.{assembled};
 ghost use Rattle.alpha_image.specs.Parts.{Parts};
 ghost use Rattle.alpha_fix.specs.Fix.{HasImage, HasCuts, IsFixedSource, IsFar, Refuses};
 
-use crate::barriers::with_barriers;
+use crate::barriers::{BarredSource, with_barriers};
 use crate::{CutFault, FixFault, cuts_of};
-use alpha_asm::{AsmFault, Symbols, assemble, assemble_with_symbols};
+use alpha_asm::{AsmFault, Symbols, assemble_known, assemble_with_symbols};
 use alpha_image::Image;
+use alpha_table::Insn;
 use std::alloc::Global;
 
 /// The source with a barrier, a line `trapb`, at each cut of its code, so that the checker accepts
@@ -75,18 +78,20 @@ fn fix_at<'a>(
     ensures ok { IfOk result (λ text. IsFixedSource source.now text.items) }
     ensures refused { IfErr result (Refuses source.now) }
 {
-    let text = with_barriers(alloc, symbols, source, base, words, cuts)?;
-    require_image(alloc, text)
+    let made = with_barriers(alloc, symbols, source, base, words, cuts)?;
+    let BarredSource { text, known } = made;
+    require_image(alloc, text, &known)
 }
 
 // Gives a text back where it has an image, and refuses it as far where it has none.
-fn require_image(alloc: Global, text: Vec<u8>) -> Result<Vec<u8>, FixFault>
-    requires { length text.items < 2 ^ 32 }
+fn require_image(alloc: Global, text: Vec<u8>, known: &[Option<Insn>]) -> Result<Vec<u8>, FixFault>
+    requires size { length text.items < 2 ^ 32 }
+    requires known { AreKnown known.now (lines text.items) }
     ensures ok { IfOk result (λ same. same.items ≡ text.items) }
     ensures image { OnOk result ((image : Parts) × HasImage text.items image) }
     ensures refused { IfErr result (IsFar text.items) }
 {
-    match assemble(alloc, &text) {
+    match assemble_known(alloc, &text, known) {
         Ok(_) => Ok(text),
         Err(AsmFault::NoMemory) => Err(FixFault::NoMemory),
         Err(fault) => Err(FixFault::Far(fault)),

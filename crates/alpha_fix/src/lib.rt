@@ -18,13 +18,13 @@
 //! answers.
 //!
 //! `cuts.rt` judges the code, and again from each cut on. `fixed_line.rt` tests a line, `barriers.rt`
-//! builds the text, and `inserter.rt` puts the steps together.
+//! builds the text, with what is known of its lines, and `inserter.rt` puts the steps together.
 //!
 //! `proofs/StretchesAlike.antt` says that a shadow is broken by the columns of its words, wherever it stands;
 //! `BarredCode.antt`, `CutSteps.antt` and `CutExistence.antt` have the cuts. `FixedItems.antt` has the items of a
 //! text's lines, `PlaceCores.antt` where these stand, `SteadyClasses.antt` what a verdict needs of a word,
 //! `BarredWords.antt` and `BarrierMarks.antt` the words of the text, `SourcePrograms.antt` and `FixedSources.antt` the
-//! laws. `ValueOffsets.antt`, `FixedText.antt` and `FixAnswers.antt` follow the code.
+//! laws. `ValueOffsets.antt`, `FixedText.antt`, `KnownLines.antt` and `FixAnswers.antt` follow the code.
 #![tactic(auto)]
 
 mod barriers;

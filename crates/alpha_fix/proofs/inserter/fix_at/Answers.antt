@@ -24,22 +24,22 @@ pub with_barriers-requires-clause-taken : goal.with_barriers-requires-clause-tak
 with_barriers-requires-clause-taken c =
     assembled-first_refused c.args.source.now (program_of c.args.image.now) c.requires.cuts.has_image.assembles
 
-pub require_image-requires : goal.require_image-requires
-require_image-requires c =
-    fixed_source-size_bound c.args.source.now c.args.cuts.now c.in_ok-text.text.items c.args.image.now
+pub require_image-requires-clause-size : goal.require_image-requires-clause-size
+require_image-requires-clause-size c =
+    fixed_source-size_bound c.args.source.now c.args.cuts.now c.in_ok-made.made.text.items c.args.image.now
     c.requires.cuts.has_image
-    c.in_ok-text.ensures.ok c.requires.size
+    c.in_ok-made.ensures.ok c.requires.size
 
 pub returns-clause-ok : goal.returns-clause-ok
 returns-clause-ok c =
     ok_with c.require_image.result c.require_image.ensures.ok c.require_image.ensures.image
-    (λ same e i. is_fixed_source c.args.source.now c.args.cuts.now c.in_ok-text.text.items c.args.image.now
+    (λ same e i. is_fixed_source c.args.source.now c.args.cuts.now c.in_ok-made.made.text.items c.args.image.now
     c.requires.cuts c.requires.some
-    c.in_ok-text.ensures.free c.in_ok-text.ensures.ok same.items e i)
+    c.in_ok-made.ensures.free c.in_ok-made.ensures.ok same.items e i)
 
 pub returns-clause-refused : goal.returns-clause-refused
 returns-clause-refused c =
     err_with c.require_image.result c.require_image.ensures.refused
-    (λ fault far. refused_far c.args.source.now c.args.cuts.now c.in_ok-text.text.items c.args.image.now c.requires.cuts
-    c.requires.some
-    c.in_ok-text.ensures.free c.in_ok-text.ensures.ok fault far)
+    (λ fault far. refused_far c.args.source.now c.args.cuts.now c.in_ok-made.made.text.items c.args.image.now
+    c.requires.cuts c.requires.some
+    c.in_ok-made.ensures.free c.in_ok-made.ensures.ok fault far)

@@ -25,7 +25,7 @@ returns-in_ok-push_insn-in-Ok-take_code-clause-taken c = λ is s.
 pub returns-in_ok-push_insn-in-Ok-take_code-clause-kinds : goal.returns-in_ok-push_insn-in-Ok-take_code-clause-kinds
 returns-in_ok-push_insn-in-Ok-take_code-clause-kinds c = λ gathers.
     c.in_ok-push_insn-in-Ok-take_code.ensures.items gathers
-    ∙ ap (λ (i : LineStmt). c.args.kinds.now.items.items ++ (line_kind i.statement ∷ []))
+    ∙ ap (λ (i : LineStmt). c.args.kinds.now.items.items ++ (line_kind i ∷ []))
     (sym (insn_at c.args.line.now c.in-Ok.insn c.in-Ok.ensures.line))
 
 pub returns-in-Err-take_code-clause-refused : goal.returns-in-Err-take_code-clause-refused
@@ -49,6 +49,6 @@ returns-in_ok-push_blank-in-Err-clause-taken c = λ is s.
 pub returns-in_ok-push_blank-in-Err-clause-kinds : goal.returns-in_ok-push_blank-in-Err-clause-kinds
 returns-in_ok-push_blank-in-Err-clause-kinds c = λ gathers.
     c.in_ok-push_blank-in-Err.ensures.items gathers
-    ∙ ap (λ (i : LineStmt). c.args.kinds.now.items.items ++ (line_kind i.statement ∷ []))
+    ∙ ap (λ (i : LineStmt). c.args.kinds.now.items.items ++ (line_kind i ∷ []))
     (sym (item_at-same c.args.line.now nothing_said
     (c.if-is_blank.ensures refl c.args.line.now c.in-Err.ensures.left)))
