@@ -213,7 +213,7 @@ class Text:
 
         def followed(taken, tables):
             return with_tables(lambda tables: flow.Code(found, targets, starts | taken | outside, starts, outside,
-                                                        tables, self.after, taken), reader, tables)
+                                                        tables, self.after, taken), reader, tables, found)
         # What stands in a table that is named, and by which no jump is shown to go, may be gone to by anybody.
         tables = {}
         for _ in range(MOST_ROUNDS):
@@ -269,7 +269,7 @@ def program(linked, targets, entries, taken, symbols):
 
     def followed(taken, tables):
         return with_tables(lambda tables: flow.Code(found, targets, roots | taken, starts, (), tables, linked.after,
-                                                    taken), lambda code: linked.reader(pointers, code), tables)
+                                                    taken), lambda code: linked.reader(pointers, code), tables, found)
     # Where it is seen where each jump and call leads, no address that the program has leads anywhere else.
     code = followed(taken, {})
     for _ in range(MOST_ROUNDS):
@@ -280,27 +280,23 @@ def program(linked, targets, entries, taken, symbols):
     return followed(set(range(count)), {})
 
 
-def with_tables(made, reader, tables):
+def with_tables(made, reader, tables, words):
     """The code with the tables that its jumps go by, beginning with some that are to be shown. A jump may be reached
     only by another one's table, or go by what is kept over a call of its own function, so at first those that aren't
     shown count as if they went nowhere. At the end they go anywhere, and all others are shown where each goes by its
     table: then the first jump that went elsewhere would have been shown not to. What isn't shown any more, as others
     are followed, counts as not shown for good."""
-    code, lost = made(tables), set()
-    waiting = {place: flow.Leads([], []) for place, step in enumerate(code.steps)
-               if step.insn.name == "jmp" and step.word is not None}
-    if waiting:
-        code = made(waiting | tables)
+    waiting, lost = {place: flow.Leads([], []) for place, step in enumerate(words) if jumps.is_jump(step)}, set()
+    code = made(waiting | tables)
     for _ in range(MOST_ROUNDS):
         shown = jumps.tables(code, reader(code))
         lost.update(place for place, leads in code.tables.items() if leads.goes and place not in shown)
         found = {place: leads for place, leads in shown.items() if place not in lost}
-        if waiting | found != code.tables:
-            code = made(waiting | found)
-        elif found == code.tables:
+        if found == code.tables:
             return code
-        else:
-            waiting, code = {}, made(found)
+        waiting = waiting if waiting | found != code.tables else {}
+        code, like = made(waiting | found), code
+        code.like = like
     return made({})
 
 

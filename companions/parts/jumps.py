@@ -20,11 +20,15 @@ TAKEN, PASSED = ("bne", "blbs"), ("beq", "blbc")
 FACTS = "facts"
 
 
+def is_jump(step):
+    """Whether a word may be a jump by a table."""
+    return step.insn.name == "jmp" and step.word is not None
+
+
 def tables(code, read):
     """Where each reached jump by a table leads. `read` says of a table and a number of entries that, None where one of
     them has no place."""
-    places = [place for place in sorted(code.reached)
-              if code.steps[place].insn.name == "jmp" and code.steps[place].word is not None]
+    places = [place for place in sorted(code.reached) if is_jump(code.steps[place])]
     if not places:
         return {}
     values, found = Values(code, places), {}
@@ -225,7 +229,7 @@ class Values:
             span = self.slot(place, step)
             if span is not None:
                 if span not in found:
-                    found[span] = self.value("from", place, ra)
+                    found[span] = self.value("from", place, ra) if name == "ldq" else self.value("narrow", place)
                 return found[span]
             return self.value("ldl", place, second, steps.displacement_of(step)) if name == "ldl" else None
         if step.word >> 26 not in table.OPERATE:

@@ -5,7 +5,7 @@ back behind the calls that it is shown to come from, so what a caller keeps over
 the two have. Only of code that isn't there the calling standard says what it reads and keeps. Of all that can't be
 followed every register counts as read.
 """
-from . import flow, steps
+from . import returns, steps
 
 ARGUMENTS = steps.bits(*range(16, 22))
 RESULT = 0
@@ -13,7 +13,7 @@ RESULT = 0
 CALL_READS = ARGUMENTS | steps.bits(25, steps.PV, steps.GP, steps.SP)
 DIVISION_READS = steps.bits(24, 25, steps.PV, steps.GP, steps.SP)
 # What a caller that isn't there may read behind a return.
-BACK = {steps.RA: flow.KEPT | steps.bits(RESULT, steps.RA, steps.GP),
+BACK = {steps.RA: returns.KEPT | steps.bits(RESULT, steps.RA, steps.GP),
         steps.BY_DIVISION: steps.ALL & ~steps.bits(steps.AT)}
 
 

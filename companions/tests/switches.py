@@ -52,6 +52,7 @@ SHOWN = [
     ("an index of 4 bytes on each of two ways", switch(NARROWED + LOWER + LOAD + GO)),
     ("an index of 4 bytes that two ways keep in the stack", switch(KEPT_NARROW + LOWER + LOAD + GO)),
     ("an index that is chosen of two of 4 bytes", switch(CHOSEN + LOWER + LOAD + GO)),
+    ("an index of 4 bytes that the caller keeps in the stack", switch("\tldl $19,16($30)\n" + LOWER + LOAD + GO)),
     ("an index that a shift makes narrow", switch("\tsra $19,32,$19\n" + LOWER + LOAD + GO)),
     ("an index in the stack over a call of the function itself", framed_switch("")),
 ]
@@ -100,6 +101,7 @@ WRONG = [
     ("an index in the stack that one of two ways doesn't keep", switch(
         KEPT_NARROW.replace("\tstq $19,0($30)\n", "", 1) + LOWER + LOAD + GO)),
     ("an index that is chosen of a wide one and another", switch(CHOSEN.replace("addl", "addq") + LOWER + LOAD + GO)),
+    ("an index of 8 bytes that the caller keeps in the stack", switch("\tldq $19,16($30)\n" + LOWER + LOAD + GO)),
     ("an index that a shift leaves wide", switch("\tsra $19,31,$19\n" + LOWER + LOAD + GO)),
     ("an index in the stack that a call of the function itself changes", framed_switch("\tstq $20,16($30)\n")),
     ("a jump to the same table without a test", switch(
