@@ -307,10 +307,10 @@ def of_orders():
 
 def all_faults():
     """All faults, by name."""
-    from . import conditions, further, rules, state, waiting
+    from . import conditions, further, rare, rules, state, waiting
     found = {}
     for part in (of_operates, of_triggers, of_accesses, of_turns, of_barriers, of_orders, rules.faults, state.faults,
-                 waiting.faults, further.faults, conditions.faults):
+                 waiting.faults, further.faults, conditions.faults, rare.faults):
         for fault in part():
             if fault.name in found:
                 raise files.Refused(f"two faults are named {fault.name}")

@@ -1,13 +1,13 @@
 """The small cases of the suite, by families: what stands in sources/ beside them, and a row of cases.tsv for each."""
 import functools
 
-from . import chosen, edges, ending, following, images, impossible, late, runs, state, waiting
+from . import chosen, edges, ending, following, high, images, impossible, late, runs, state, waiting
 
 
 @functools.lru_cache
 def all_blocks():
     """The images of blocks."""
-    return [made for family in (late, following, runs, state, waiting, ending, chosen, impossible)
+    return [made for family in (late, following, runs, state, waiting, ending, chosen, impossible, high)
             for made in family.families()]
 
 

@@ -42,6 +42,35 @@ def overlaps():
                       f"segment {first} of eight ends where segment {last} begins")
 
 
+def within():
+    """A segment of each place and size beside the code, the stack and another segment, in pages: before it, over its
+    ends, within it and around it."""
+    for place, size in itertools.product(range(-2, 4), (0, 1, *(n * PAGE + more for n in range(1, 6)
+                                                                for more in (0, 1)))):
+        is_shared = size > 0 and place < 3 and place * PAGE + size > 0
+        told, answer = f"{size} bytes {place} pages from", field(8) if is_shared else None
+        code = [*EXIT, *[NOP] * (6_144 - len(EXIT))]
+        yield row(f"beside-code-{place}-{size}",
+                  first(code, base=4 * PAGE, segment=Segment((4 + place) * PAGE, zeroed=size)),
+                  f"a segment of {told} a code of three pages", answer)
+        other = Segment(DATA, zeroed=3 * PAGE)
+        if place > 0:
+            yield row(f"beside-segment-{place}-{size}",
+                      second(segments=[other, Segment(DATA + place * PAGE, zeroed=size)]),
+                      f"a segment of {told} one of three pages", answer)
+        if place * PAGE + size <= 3 * PAGE and place < 3:
+            yield row(f"beside-stack-{place}-{size}",
+                      first(segment=Segment(TOP + (place - 3) * PAGE, zeroed=size), stack=3 * PAGE),
+                      f"a segment of {told} a stack of three pages", answer)
+    for place, count in itertools.product(range(-2, 3), range(1, 6)):
+        if place + count <= 3:
+            code = [*EXIT, *[NOP] * (2_048 * count - len(EXIT))]
+            yield row(f"beside-stack-code-{place}-{count}",
+                      first(code, base=TOP + (place - 3) * PAGE, stack=3 * PAGE),
+                      f"a code of {count} pages {place} pages from a stack of three",
+                      field(8) if place + count > 0 else None)
+
+
 def odd_sizes():
     """Data and zeroed bytes of all small sizes, of which the first eight are the exit value."""
     for count in range(10):
@@ -206,5 +235,5 @@ def starts():
 
 
 def rows():
-    for part in (pairs, overlaps, odd_sizes, distant, near_words, taken, segments, over_ends, starts):
+    for part in (pairs, overlaps, within, odd_sizes, distant, near_words, taken, segments, over_ends, starts):
         yield from part()

@@ -106,6 +106,12 @@ def bytes_of():
             label = f"{name}_{how}"
             made.add(label, [*lines, "br dump"])
             made.run(f"{name}-{how}", label, f"`{name}` at each place of 64 bytes, {how}", {5: 0x8877665544332211})
+            # The same with all bits otherwise, so that each place has a byte of either sign.
+            turned = [line for at in range(64, 128, 8)
+                      for line in (f"ldq $10,{at}($9)", "not $10,$10", f"stq $10,{at}($9)")]
+            made.add(f"{label}_not", [*turned, *lines, "br dump"])
+            made.run(f"{name}-{how}-not", f"{label}_not",
+                     f"`{name}` at each place of 64 bytes whose bits are turned, {how}", {5: 0x778899AABBCCDDEE})
     return made
 
 

@@ -236,6 +236,9 @@ def limits(refused):
             with_parts(items=[("report",)] * 1_048_576), "norun kind 1 at 0")
     refused("most-units", "1,000,000,000 units, of which the first is impossible",
             with_parts(items=[("trigger", 1), ("units", 999_999_999)]), "norun kind 1 at 0")
+    refused("most-units-waits", "1,000,000,000 units, and a Wait and a Report, which are none",
+            with_parts(items=[("trigger", 1), ("wait", 0, 1), ("report",), ("units", 999_999_999)]),
+            "norun kind 1 at 0")
     for name, items in (("one", [("trigger", 1), ("units", 1_000_000_000)]),
                         ("two", [("units", 999_999_999), ("trigger", 1), ("report",), ("trigger", 1)]),
                         ("wide", [("units", 4_294_967_295), ("report",), ("units", 2)]),

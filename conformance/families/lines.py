@@ -119,7 +119,9 @@ def flags(base="$9"):
         before = ["lda $4,5($31)", "lda $6,3($31)", "mov $9,$7"] + (["lda $0,9($31)"] if name == "callsys" else [])
         if "ld" in name and name not in ("lda", "ldah"):
             line = line.replace("72($9)", "24($9)")
-        yield f"stq_c behind {line}", [*before, f"ldq_l $5,8({base})", line, "lda $3,7($31)", f"stq_c $3,0({base})"]
+        for told in (line, line.replace("$5", "$31")) if "$5" in line else (line,):
+            yield (f"stq_c behind {told}",
+                   [*before, f"ldq_l $5,8({base})", told, "lda $3,7($31)", f"stq_c $3,0({base})"])
     for name in (*late.STORES[:5], *late.LOADS[:5]):
         for at in (0, 8, 16):
             line = f"{name} {'$1' if name in late.STORES else '$5'},{at}({base})"
