@@ -295,7 +295,7 @@ FILE = tuple(b"FILE")
 DEFAULT = options_of("wrap", 100_000_000, False)
 # Words, and what they ask for by docs/commands.md; None where they are no command.
 WORKED = [
-    ("run FILE", ("run", DEFAULT, FILE)), ("check FILE", ("of_image", ("Check",), FILE)), ("check", None),
+    ("", None), ("run FILE", ("run", DEFAULT, FILE)), ("check FILE", ("of_image", ("Check",), FILE)), ("check", None),
     ("run", None),
     ("check -- --x", ("of_image", ("Check",), tuple(b"--x"))), ("check - -", None),
     ("check -", ("of_image", ("Check",), tuple(b"-"))),

@@ -6,8 +6,8 @@
 A program of Python translates the text of the definitions, those of the clauses that data.py names and of answers of
 `run`, into functions; nothing of them is written by hand. These are held against words that GNU as made, results that
 were measured on qemu-alpha, worked verdicts and images, programs with their output, the models of companions/parts, and
-the built program, crates/alpha_tool/out/alpha_tool where none is given. A sample takes under three minutes of a
-processor, --whole some fifty.
+the built program, crates/alpha_tool/out/alpha_tool where none is given. A sample takes about a minute of a processor,
+--whole some twenty.
 
 How many lines of each file were run is held against the reading order of docs/theorems.md; --lines tells which weren't,
 and --write writes the numbers there. --slips changes N of the definitions' lines, all where N is left out, and tells
@@ -23,7 +23,7 @@ sys.dont_write_bytecode = True
 HERE = os.path.dirname(os.path.abspath(__file__))
 sys.path = [path for path in sys.path if os.path.abspath(path or ".") != HERE] + [os.path.dirname(HERE)]
 from definitions import calls, commands, data, facts, images, journals, library, lines, moments, places  # noqa: E402
-from definitions import refused, replies, runs, sessions, slips, tables, words  # noqa: E402
+from definitions import refused, replies, runs, sessions, slips, spellings, tables, words  # noqa: E402
 from definitions.asking import Asked  # noqa: E402
 from definitions.running import Definitions, deeply  # noqa: E402
 from definitions.sources import TOP  # noqa: E402
@@ -33,7 +33,7 @@ GROUPS = [refused.Refused(), library.Library(), words.Words(), words.Values(), w
           tables.Lines(), places.Places(), places.Longest(), runs.Programs(), runs.Sequential(), runs.Late(),
           moments.Moments(), moments.Waits(), moments.Each(), images.Fronts(), images.Images(), calls.Ran(),
           calls.Checked(), calls.Listed(), calls.Spoken(), replies.Readings(), replies.Replied(), commands.Runs(),
-          sessions.Commands(), sessions.Sessions(), journals.Spellings(), journals.Records(), journals.Replays(),
+          sessions.Commands(), sessions.Sessions(), spellings.Spellings(), journals.Records(), journals.Replays(),
           facts.Facts(), facts.Follows(), facts.Scans()]
 MOST_SHOWN, LONGEST = 3, 600
 
@@ -46,11 +46,15 @@ def tried(group, d, case):
         return f"{type(error).__name__}: {error}"
 
 
-def held(group, d, cases):
-    """Tries the cases, and tells how many there were and the first differences."""
+def held(group, d, watch, cases):
+    """Tries the cases, the first ones watched, and tells how many there were and the first differences."""
     begun, differences = time.process_time(), []
-    for case in cases:
-        found = tried(group, d, case)
+    for number, case in enumerate(cases):
+        if number < lines.MOST:
+            found = tried(group, watch.begin(), case)
+            watch.end(group, number)
+        else:
+            found = tried(group, d, case)
         if found:
             differences.append(found)
     print(f"{group.name}: {len(cases):,} cases, {len(differences) or 'no'} difference{'s' * (len(differences) > 1)} "
@@ -69,16 +73,15 @@ def untranslated(d):
 
 
 def work(options, asked):
-    d = Definitions()
+    d, watch = Definitions(), lines.Watch()
     size = "whole" if options.whole else "sample"
     fine = untranslated(d)
     made = {}
     for group in GROUPS:
         cases = list(group.cases(random.Random(f"{group.name} {options.seed}"), group.counts[size], asked))
-        fine = held(group, d, cases) and fine
+        fine = held(group, d, watch, cases) and fine
         made[group] = cases
-    print(f"{len(d.translation.functions):,} definitions were run, with {asked.calls:,} calls of the program")
-    watch = lines.watched(made)
+    print(f"{len(watch.d.translation.functions):,} definitions were run, with {asked.calls:,} calls of the program")
     fine = lines.held(watch, options.write) and fine
     if options.lines:
         lines.tell(watch)

@@ -2,6 +2,7 @@
 
 The clause must hold of a call as it was, and of one with another status, output, line, reply or option it mustn't.
 """
+import itertools
 import random
 from collections import namedtuple
 
@@ -24,20 +25,19 @@ Made = namedtuple("Made", "words status replies calls out notes faults is_told")
 
 def listed(content):
     """The words that bytes write."""
-    return Ahead(lambda n: int.from_bytes(content[8 * n:8 * n + 8], "little"))
+    words = (int.from_bytes(content[at:at + 8], "little") for at in itertools.count(step=8))
+    return Ahead(words.__next__)
 
 
 def seeded(d, seed):
     """The words of a seed, as the definitions have them."""
-    state, found = d("alpha_imprecise.Pcg.seeded")(seed), []
+    state = d("alpha_imprecise.Pcg.seeded")(seed)
 
-    def word(n):
+    def next_word():
         nonlocal state
-        while len(found) <= n:
-            one, state = d("rand_pcg.Pcg.pcg64")(state)
-            found.append(one)
-        return found[n]
-    return Ahead(word)
+        word, state = d("rand_pcg.Pcg.pcg64")(state)
+        return word
+    return Ahead(next_word)
 
 
 def refusal(trigger, at, condition):
@@ -151,7 +151,7 @@ class Held:
         d, program = self.d, program_of(self.case.whole, self.case.how)
         if not self.is_forced:
             return None
-        words = tuple(self.ahead[0](n) for n in range(MOST_WORDS))
+        words = self.ahead[0].first(MOST_WORDS)
         begun = d("alpha_imprecise.ChosenRun.begun")(d("alpha_seq.Start.start")(program), tuple(given), NONE, 0, words)
         return d("alpha_imprecise.ChosenRun.chosen_run")(program, begun, self.case.steps)
 

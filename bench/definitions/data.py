@@ -61,8 +61,12 @@ DOMAINS = {
 # What isn't translated, and why: nothing that the clauses reach. What is reached by these alone isn't counted.
 NAMED = {}
 
-# Functions whose values are remembered by their arguments, and those that go by the number below, row by row.
-REMEMBERED = {"alpha_table.Words.class_in"}
+# Functions whose values are remembered by their arguments: as long as nothing changes; and for one case, as they go by
+# what is handed in, or are large. Those behind them go by the number below, row by row.
+REMEMBERED = {"alpha_table.Words.class_in", "alpha_request.Asked.asked", "rand_pcg.Pcg.pcg64"}
+BY_CASES = {"alpha_image.Parts.image_spelling", "alpha_image.Parts.IsImage", "alpha_shadow.Broken.IsAccepted",
+            "alpha_seq.Start.start", "alpha_imprecise.Step.imprecise_step",
+            "alpha_imprecise.Restart.IsRestartable", "alpha_replay.Journaled.stops_at"}
 BY_ROWS = {"alpha_seq.Run.after"}
 
 
@@ -80,15 +84,22 @@ def rests(items, least=0):
 
 
 class Ahead:
-    """Words that lie ahead, by their numbers; the same as others whose first ones are the same."""
+    """Words that lie ahead, by their numbers, made one after another by the function `next_word`; the same as others
+    whose first ones are the same."""
 
     FIRST = 12
 
-    def __init__(self, word):
-        self.word = word
+    def __init__(self, next_word):
+        self.next_word, self.made = next_word, []
+
+    def first(self, count):
+        """The first words, so many."""
+        while len(self.made) < count:
+            self.made.append(self.next_word())
+        return tuple(self.made[:count])
 
     def __call__(self, number):
-        return self.word(number)
+        return self.first(number + 1)[number] if number >= len(self.made) else self.made[number]
 
     def __eq__(self, other):
         return all(self(number) == other(number) for number in range(self.FIRST))

@@ -152,3 +152,13 @@ def program(chooser, is_accepted, level=1, front=0):
     if level == 2 and chooser.random() < 0.5:
         segments.append(image.Segment(DATA + 0x10000, b"\1\2\3", 5))
     return image.Image([TRAPB] * front + words, CODE, CODE + 4 * front, segments, STACK, 0 if level == 1 else 2)
+
+
+def branching():
+    """An accepted image that reads a byte, puts an even one only where that is odd, and ends with it."""
+    words = [memory("ldah", 5, 31, 0x1000), memory("lda", 0, 31, 3), memory("lda", 16, 31, 0),
+             operate("bis", 31, 5, 17), memory("lda", 18, 31, 1), CALLSYS, memory("ldq", 1, 5, 0),
+             branch("blbc", 1, 5), memory("lda", 0, 31, 4), memory("lda", 16, 31, 1), memory("lda", 17, 5, 8),
+             memory("lda", 18, 31, 1), CALLSYS,
+             operate("bis", 31, 1, 16), memory("lda", 0, 31, 1), CALLSYS]
+    return image.Image(words, CODE, CODE, [image.Segment(DATA, bytes(8) + b"B")], STACK, 0)

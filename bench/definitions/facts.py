@@ -1,7 +1,7 @@
 """Worked facts: small definitions at values that no run of a program brings about, and the scan at any place."""
 from . import drawn
 from .calls import SHELF, SINK, SOURCE, Device, told
-from .reference import COMPLETIONS, MASK, NONE, Late, image, option, parts_of, program_of, some
+from .reference import COMPLETIONS, CONDITIONS, MASK, NONE, Late, image, option, parts_of, program_of, some
 from .translate import record
 
 FILE, OTHER, WORD = tuple(b"FILE"), tuple(b"other"), drawn.operate("addq", 1, 2, 3)
@@ -36,12 +36,38 @@ def ended_late(drawn_words):
     return record(run=record(at=record(last_event=("Precisely", ("Ends", ("Exit", 0)))), drawn=drawn_words))
 
 
+def chosen_run(at, steps, waited, words, count):
+    """A run of the imprecise machine by coming words, which has used no unit."""
+    return record(run=record(at=at, steps=steps, left=(), units=0), waited=waited, words=words, count=count)
+
+
+def waiting(waited, count):
+    """Such a run before the second word, while the trap of the first is pending."""
+    return chosen_run(record(state=state(pc=drawn.CODE + 4), pending=some(record(place=0, mask=1 << 7)),
+                             last_event=("Precisely", ("Went",))), (), waited, (1, 9, 5), count)
+
+
+# Code whose first word traps, and whose second sets R3.
+TWO_WORDS = record(completion=("Wrap",), image=parts_of(
+    image.Image([drawn.operate("addq/v", 1, 2, 7), WORD], drawn.CODE, drawn.CODE, [], 64, 1)))
+WAITED = ("Waited", False, 9, 9)
+# The word is executed, by two words of choices.
+EXECUTED = chosen_run(record(state=state(pc=drawn.CODE + 8, regs=(*REGS[:3], 9, *REGS[4:])),
+                             pending=some(record(place=0, mask=1 << 7)), last_event=WAITED), (WAITED,), 1, (5,), 2_002)
+# As many words were executed as may be: the trap is reported, by no word.
+REPORTED = chosen_run(record(state=state(pc=drawn.CODE + 4, regs=(*REGS[:7], 3, *REGS[8:]), lock=NONE, count=0,
+                                         logged=drawn.CODE), pending=NONE, last_event=("Reported", drawn.CODE)),
+                      (("Reported", drawn.CODE),), 0, (1, 9, 5), 7)
 SMALL = record(image=parts_of(image.Image([drawn.operate("addq/v", 1, 2, 3)], drawn.CODE, drawn.CODE, [], 64, 1)),
                completion=("Wrap",))
 BEHIND = parts_of(image.Image([WORD] * 4, drawn.CODE, drawn.CODE + 8, [], 64, 1))
 # A load and a store behind a trigger, by one base and with no byte in common.
 APART = (drawn.operate("addq/v", 1, 2, 7), drawn.memory("ldq", 8, 5, 8), drawn.memory("stq", 3, 5, 16), drawn.TRAPB)
 LOGGED = {"pc": drawn.CODE + 4, "lock": NONE, "logged": drawn.CODE, "regs": REGS}
+
+BROKEN, PENDING = record(trigger=2, at=5, condition=("Turn",)), record(place=0, mask=2)
+STILL = {part: record(before=0, now=0) for part in ("shelf", "input", "out", "notes")}
+LOCKED, TURN, OPEN, LONG = (("Locked",), ("Turn",), ("Open",), ("Long",))
 
 # A definition, its arguments, and what it is there.
 WORKED = [
@@ -96,6 +122,8 @@ WORKED = [
     ("alpha_io.Faults.NoFault", (0, 0), True), ("alpha_io.Faults.NoFault", (0, 1), False),
     ("alpha_io.Faults.NoFault", (MASK - 1, MASK - 1), True),
     ("alpha_io.Faults.NoFault", (MASK, MASK), False),
+    ("alpha_cmd.Call.NoDeviceFault", (record(**STILL),), True),
+    *(("alpha_cmd.Call.NoDeviceFault", (record(**{**STILL, part: record(before=0, now=1)}),), False) for part in STILL),
     ("alpha_seq.Notes.overflow_line", (0x1F2E3D4C5B6A7988,), tuple(b"overflow 1f2e3d4c5b6a7988\n")),
     ("alpha_seq.Notes.end_line", (("Exit", MASK),), tuple(b"exit 18446744073709551615\n")),
     ("alpha_seq.Notes.end_line", (("Signal", 2, 0x10004),), tuple(b"signal 2 at 0000000000010004\n")),
@@ -129,6 +157,64 @@ WORKED = [
     # No barrier waits.
     ("alpha_imprecise.Step.unpredictable_state", (NONE, REGS, None), REGS),
     ("alpha_imprecise.Step.unpredictable_state", (some(("barrier", NONE)), REGS, None), REGS),
+    ("alpha_imprecise.ChosenRun.lost_trap", (("Triggered", 5),), NONE),
+    ("alpha_imprecise.ChosenRun.lost_trap", (("Reported", 8),), NONE),
+    ("alpha_imprecise.Step.can_wait", (NONE, state()), False),
+    ("alpha_imprecise.ChosenRun.advance_chosen_run", (TWO_WORDS, waiting(0, 2_000)), EXECUTED),
+    ("alpha_imprecise.ChosenRun.advance_chosen_run", (TWO_WORDS, waiting(1_024, 7)), REPORTED),
+    *(("alpha_replay.Replay.ending_by", (end,), end)
+      for end in (("Exit", 5), ("Signal", 2, 8), ("Fetch", 8), ("Access", 8, 9), ("Align", 8, 9), ("Overflow", 8))),
+    *(("alpha_values.Bits.zeros_before_one", (bits,), count)
+      for bits, count in (((), 0), ((0, 0, 1, 0), 2), ((0, 0), 2), ((1, 0), 0))),
+    ("alpha_cmd.Commands.Imprecise.MayLose", (False, NONE), True),
+    ("alpha_cmd.Commands.Imprecise.MayLose", (False, some(1)), False),
+    *(("alpha_replay.Events.move_of", (event,), move) for event, move in (
+        (("Precisely", ("Ends", ("Overflow", 16))), ("Reports",)), (("Precisely", ("Ends", ("Exit", 16))), ("One",)),
+        (("Precisely", ("Went",)), ("One",)), (("Triggered", 5), ("Trips", 5)),
+        (("Waited", True, 5, 6), ("Waits", True, 5)), (("Reported", 8), ("Reports",)), (("Lost", 8, 2), ("Reports",)))),
+    *(("alpha_replay.Compared.first_difference", arguments, wanted) for arguments, wanted in (
+        ((7, (9, 2), (9, 3)), some(8)), ((7, (9, 2), (9, 2)), NONE), ((7, (9,), (9, 3)), some(8)),
+        ((7, (9, 2), (9,)), some(8)), ((7, (4,), (9,)), some(7)))),
+    *(("alpha_replay.Moves.may_add", (NONE, move), True)
+      for move in (("One",), ("Trips", 5), ("Waits", False, 5), ("Reports",))),
+    # With nothing pending no word waits, and no report follows; while a trap is pending nothing else does.
+    *(("alpha_replay.Moves.fits", (NONE, state(), pending, 1, move), False)
+      for pending, move in ((NONE, ("Waits", True, 5)), (NONE, ("Reports",)), (some(PENDING), ("One",)),
+                            (some(PENDING), ("Trips", 5)))),
+    *(("alpha_shadow.Least.condition_number", ((condition,),), n) for n, condition in enumerate(CONDITIONS, 1)),
+    # Of broken places the least goes by place, then trigger, then condition.
+    *(("alpha_shadow.Least.NoLater", (BROKEN, *place), wanted)
+      for place, wanted in (((2, 4, TURN), False), ((2, 5, OPEN), True), ((2, 5, TURN), True), ((2, 5, LOCKED), False),
+                            ((3, 5, LOCKED), True), ((1, 5, LONG), False), ((1, 6, LOCKED), True),
+                            ((9, 4, LONG), False))),
+    *(("alpha_cmd.OfImage.Debug.session_status", ((name,),), (name,))
+      for name in ("InputFault", "SinkFault", "NoMemory")),
+    ("alpha_cmd.OfImage.Debug.session_status", (("Done",),), ("Done", 0)),
+    ("alpha_cmd.OfImage.Debug.session_status", (("TooLarge",),), ("TooLarge", 1_048_576)),
+    ("alpha_debug.Command.number_in", ((),), NONE), ("alpha_token.Numeral.number_value", ((),), 0),
+    ("alpha_table.Decoded.source_is", (("Reg", 1), 1), False), ("alpha_table.Decoded.source_is", (("Lit", 1), 1), True),
+    ("alpha_table.Decoded.source_is", (("Lit", 2), 1), False),
+    ("alpha_table.Decoded.is_register", (("Reg", 1),), True), ("alpha_table.Decoded.is_register", (("Lit", 1),), False),
+    # A script of more bytes than count: lines that end before the first one too many.
+    *(("alpha_debug.Script.lines_within", (most, tuple(begun), tuple(b"ab\r\nc\nd")), tuple(map(tuple, lines)))
+      for most, begun, lines in (
+          (7, b"", (b"ab", b"c", b"d")), (6, b"", (b"ab", b"c")), (5, b"x", (b"xab",)), (4, b"", (b"ab",)),
+          (3, b"x", ()), (0, b"", ()))),
+    *(("alpha_debug.Script.closed", (most, (1, 2, 3), record(text=(5,), over=over)), record(text=(5,), end=(end,)))
+      for most, over, end in ((3, False, "Done"), (2, False, "TooLarge"), (2, True, "Done"))),
+    ("alpha_debug.Script.ended_parts", ((),), ()),
+    *(("alpha_debug.Session.is_barrier", (event,), False)
+      for event in (("Went",), ("Overflowed", 8), ("Ends", ("Exit", 0)))),
+    ("alpha_imprecise.ChosenRun.settled_within", (0, None, 5), 5),
+    # What stands before the closing quote: letters and digits behind a backslash count with it.
+    *(("alpha_token.Quoted.quoted_len", (0, tuple(text.encode())), option(wanted)) for text, wanted in (
+        ('"', 0), ('a b"c"', 3), (r'\n\t\\\"\0"', 10), (r'\x4F\xa0"', 8), (" ~\"", 2), (r'\x4"', None), (r'\x"', None),
+        (r"\x", None), (r"\x4", None),
+        (r'\xG0"', None), (r'\x0G"', None), (r'\q"', None), (r'\N"', None), ("\\", None), ("a", None), ("", None),
+        ('\t"', None), ('\x1f"', None), ('\x7f"', None), ('a\n"', None))),
+    *(("alpha_token.Quoted.byte_at", (tuple(text.encode()),), option(wanted)) for text, wanted in (
+        ("a", (97, 0)), (r"\n", (10, 1)), (r"\t", (9, 1)), (r"\\", (92, 1)), (r'\"', (34, 1)), (r"\0", (0, 1)),
+        (r"\x4Fx", (79, 3)), ('"', None), ("", None))),
     ("alpha_request.Options.is_there", (NONE,), False), ("alpha_request.Options.is_there", (some(()),), True),
     ("alpha_request.Options.is_given", (NONE,), False),
     ("alpha_request.Options.is_given", (some(tuple(b"true")),), True),

@@ -66,7 +66,8 @@ class Images:
     def damage(self, chooser, whole):
         """Changes one part."""
         bases = (0, 8192, 4096, 0xFFFF, drawn.CODE, drawn.DATA, (1 << 30) - 8192, 1 << 30, 0x10000008)
-        way = chooser.randrange(9)
+        # Of code without a word none can become another.
+        way = chooser.choice([n for n in range(9) if whole.words or n not in (3, 8)])
         if way == 0:
             whole.code_base = chooser.choice(bases)
             whole.entry = whole.code_base

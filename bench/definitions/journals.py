@@ -11,26 +11,13 @@ from .calls import DONE, Device, call_of, pieces_of, told, words_of
 from .commands import CHOICES, MEMORY, SHELF, SPENT, listed, seeded, steps_to_end
 from .reference import COMPLETIONS, ENDS, NONE, Late, journal, parts_of, playing, program_of, some
 from .replies import PAST, readings
+from .runs import options_of
+from .spellings import is_journal, listed_of
 from .translate import record
 
 # How many words a run draws at most here, and by the definitions with so many units; told ones have as many as these.
-MOST_WORDS, WORDS_A_UNIT, MOST_TOLD = 400, 2_049, 30
-ITEMS = {journal.UNITS: "Units", journal.TRIGGER: "Trigger", journal.WAIT: "Wait", journal.REPORT: "Report"}
+MOST_WORDS, WORDS_A_UNIT, MOST_TOLD = 400, 2_049, 16
 Case = namedtuple("Case", "whole how steps choices seed given words answered kept")
-
-
-def item_of(item):
-    kind, *numbers = item
-    return (ITEMS[kind], bool(numbers[0]), numbers[1]) if kind == journal.WAIT else (ITEMS[kind], *numbers)
-
-
-def listed_of(one):
-    """A journal's parts in the definitions' words."""
-    name, *numbers = one.ending
-    ending = (("Spent" if name == "none" else name.capitalize(),)
-              + tuple(numbers[:len(dict(journal.ENDINGS)[name])]))
-    return record(completion=COMPLETIONS[one.completion], ending=ending, input=tuple(one.given), output=tuple(one.put),
-                  items=tuple(map(item_of, one.items)))
 
 
 def otherwise(chooser, one):
@@ -68,15 +55,6 @@ def changed(item):
     return (kind, 1 - numbers[0], numbers[1]) if kind == journal.WAIT else (journal.WAIT, 0, 3)
 
 
-def is_journal(one):
-    """Whether it is a good one: its bytes are read back."""
-    try:
-        journal.journal_of(one.spelled())
-    except journal.BadJournal:
-        return False
-    return True
-
-
 def turned(given):
     """Other bytes, as many."""
     return bytes(byte ^ 1 for byte in given)
@@ -91,6 +69,8 @@ class Recorded:
         for n in range(count):
             kind = self.KINDS[n % len(self.KINDS)]
             whole, how, given = self.program(chooser, "forced" not in kind, n % 3 == 0)
+            if n == 0:
+                whole, how, given = drawn.branching(), "wrap", b"\1\1"
             own = steps_to_end(whole, how, given)
             steps = chooser.choice((0, 1, 9, 30, 60, *((own, own, own - 1, own + 1) if own and own < 90 else ())))
             steps = MOST_TOLD if n % 3 == 0 else steps
@@ -117,60 +97,13 @@ class Recorded:
         """The run by the first words of those that lie ahead."""
         program = program_of(case.whole, case.how)
         begun = d("alpha_imprecise.ChosenRun.begun")(d("alpha_seq.Start.start")(program), tuple(case.given), NONE, 0,
-                                                     tuple(map(ahead, range(most))))
+                                                     ahead.first(most))
         return d("alpha_imprecise.ChosenRun.chosen_run")(program, begun, case.steps)
-
-
-class Spellings:
-    name, about = "journals", "the bytes of random journals, which of them are good ones, and what they count"
-    counts = {"sample": 300, "whole": 20_000}
-    is_quick = True
-
-    def cases(self, chooser, count, asked):
-        for _ in range(count):
-            yield self.drawn(chooser)
-        yield None
-        # The most units, and one more.
-        for more in (0, 1):
-            yield journal.Journal("wrap", ("none", 0, 0), b"", b"x", [(journal.UNITS, journal.MOST_UNITS + more)])
-            yield journal.Journal("wrap", ("none", 0, 0), b"", b"x",
-                                  [(journal.UNITS, journal.MOST_UNITS - 1), *[(journal.TRIGGER, 0)] * (1 + more)])
-
-    def drawn(self, chooser):
-        number = (0, 1, 8, 1 << 32, (1 << 63) - 1, (1 << 64) - 1)
-        name, used = chooser.choice(journal.ENDINGS)
-        numbers = [chooser.choice(number) for _ in used] + [0] * (2 - len(used))
-        items = []
-        for _ in range(chooser.choice((0, 1, 2, 5))):
-            items.append(chooser.choice(((journal.UNITS, chooser.choice((0, 1, 7, 300, (1 << 32) - 1))),
-                                         (journal.TRIGGER, chooser.choice(number)), (journal.REPORT,),
-                                         (journal.WAIT, chooser.getrandbits(1), chooser.choice(number)))))
-        given, put = (bytes(chooser.randrange(256) for _ in range(chooser.choice((0, 1, 300)))) for _ in range(2))
-        return journal.Journal(chooser.choice(journal.COMPLETIONS), (name, *numbers), given, put, items)
-
-    def difference(self, d, case):
-        if case is None:
-            return self.limits(d)
-        parts = listed_of(case)
-        found = (bytes(d("alpha_replay.Journal.spelling")(parts)), d("alpha_replay.Journal.IsJournal")(parts),
-                 d("alpha_replay.Items.units_of")(parts.items), d("alpha_replay.Replay.reports_of")(parts.items),
-                 d("alpha_replay.Journaled.is_within")(parts))
-        wanted = case.spelled(), is_journal(case), case.units(), case.reports(), case.units() <= journal.MOST_UNITS
-        return "" if found == wanted else f"{case.spelled().hex()}: {found}, and {wanted} is wanted"
-
-    def limits(self, d):
-        """The most bytes of a journal, and one more; and an item more than it may have."""
-        within = d("alpha_replay.Journaled.is_within")
-        parts = listed_of(journal.Journal("wrap", ("none", 0, 0), b"", b"", []))
-        found = [within(parts._replace(**{name: bytes(journal.MOST_BYTES + more)}))
-                 for name in ("input", "output") for more in (0, 1)]
-        found.append(within(parts._replace(items=(("Report",),) * (journal.MOST_ITEMS + 1))))
-        return "" if found == [True, False, True, False, False] else f"limits of journals: {found}"
 
 
 class Records(Recorded):
     name, about = "records", "`runs` of calls of `record`, as they were, and with something else"
-    counts = {"sample": 12, "whole": 600}
+    counts = {"sample": 24, "whole": 600}
     is_quick = False
     # What is otherwise, and whether the clause holds then; None where that depends on the run.
     WAYS = {"as it was": True, "told": True, "told file": True, "told otherwise": False, "input told": True,
@@ -203,6 +136,8 @@ class Records(Recorded):
             late.count)
         if number != {"Done": 0, "Stopped": 5, "StepsSpent": 6, "Lost": 7}[own[0]]:
             return f"{case.words} over {case.given}, {case.whole.spelled().hex()}: status {number}, and not {own}"
+        if not self.has_its_journal(d, case, ahead):
+            return f"{case.words} over {case.given}, {case.whole.spelled().hex()}: its journal where no input is told"
         for way in self.WAYS:
             wanted = self.wanted(way, d, case, late, own)
             if wanted is None:
@@ -225,6 +160,14 @@ class Records(Recorded):
                 journals=[listed_of(one), listed_of(self.other(one))], late=[late.run.steps], places=places,
                 drawn=[0, late.count, late.count + 1], file_bytes=[tuple(CHOICES)], events=[],
                 pieces=[(content,), (content + (0,),), (tuple(refused.spelled()),), (tuple(CHOICES),)])
+
+    def has_its_journal(self, d, case, ahead):
+        """Whether the journal is one of a run of the plan over whatever input, and another one is none."""
+        options, plan = options_of(case.how, case.steps, False), record(image=parts_of(case.whole), ahead=ahead)
+        one = journal.journal_of(case.kept)
+        found = [d("alpha_cmd.Commands.Record.HasJournal")(options, NONE, plan, listed_of(it))
+                 for it in (one, self.other(one))]
+        return found == [True, False]
 
     def other(self, one):
         """A good journal of another run: it puts a byte more."""
@@ -300,7 +243,7 @@ class Records(Recorded):
 
 class Replays(Recorded):
     name, about = "replays", "`runs` of calls of `replay` with journals of runs and others; `IsRun` and `IsSequential`"
-    counts = {"sample": 40, "whole": 1_500}
+    counts = {"sample": 60, "whole": 1_500}
     is_quick = False
     # Of a journal that is one of a run: what is otherwise, and whether the clause holds then.
     WAYS = {"as it was": True, "told": True, "pieces": True, "memory": True, "sink": True, "spent": False,

@@ -1,5 +1,8 @@
 """The library in Python: what natives.py has, against the translation of its text in the kit, or against worked
 values."""
+import itertools
+
+from .data import Ahead
 from .natives import HELPERS, NATIVES
 from .reference import NONE, some
 from .sources import Sources
@@ -39,7 +42,8 @@ BY_TEXT = {
     ("Rattle.core.specs.List", "range_with_len"): pairs(NUMBERS, NUMBERS),
     ("Rattle.core.specs.List", "concat"): [(LISTS,), ((),)],
     ("Rattle.core.specs.List", "flat_map"): [(lambda x: (x, x), xs) for xs in LISTS],
-    ("Rattle.alpha_imprecise.specs.ChosenRun", "first_words"): [(n, lambda k: 7 * k + 1) for n in NUMBERS],
+    ("Rattle.alpha_imprecise.specs.ChosenRun", "first_words"): pairs(
+        NUMBERS, (lambda k: 7 * k + 1, Ahead(itertools.count(5).__next__))),
 }
 # Worked values of what has no text, and of what is written in terms of that alone.
 BY_VALUE = {

@@ -11,23 +11,28 @@ from .running import Definitions, reading
 from .sources import TOP, Declaration
 
 
-MOST_CASES, MOST_FORGOTTEN = 3_500, 800
+# So many cases of a group are watched.
+MOST = 3_500
 PAGE, ORDERED = TOP / "docs/theorems.md", re.compile(r"^\| `(crates/\S+\.antt)` \| (\S+) \|", re.M)
 
 
-def watched(made):
-    """The watched definitions, and for each number of a line the cases that ran it, as (group, number of the case)."""
-    d, ran = Definitions(is_watched=True), {}
-    for group, cases in made.items():
-        for number, case in enumerate(cases[:MOST_CASES]):
-            d.translation.seen.clear()
-            # What is remembered isn't run again.
-            if number < MOST_FORGOTTEN or number % 20 == 0:
-                d.translation.forget()
-            group.difference(d, case)
-            for line in d.translation.seen:
-                ran.setdefault(line, []).append((group, number))
-    return d, ran
+class Watch:
+    """The watched definitions `d`; `ran` has for each number of a line the cases that ran it, as (group, number of the
+    case)."""
+
+    def __init__(self):
+        self.d, self.ran = Definitions(is_watched=True), {}
+
+    def begin(self):
+        """The definitions for a case that is watched."""
+        self.d.forget()
+        self.d.translation.seen.clear()
+        return self.d
+
+    def end(self, group, number):
+        """Notes which lines the case ran."""
+        for line in self.d.translation.seen:
+            self.ran.setdefault(line, []).append((group, number))
 
 
 def shapes(term, found):
@@ -123,7 +128,7 @@ def reached(clauses):
 
 def tell(watch):
     """Prints how many lines of each file ran, and which didn't."""
-    files = counted(*watch, data.CLAUSES)
+    files = counted(watch.d, watch.ran, data.CLAUSES)
     for path, (every, run) in sorted(files.items()):
         lacking = sorted(every - run)
         print(f"    {len(run):3} of {len(every):3}  {path.relative_to(TOP)}" + (f"; not {lacking}" if lacking else ""))
@@ -135,7 +140,7 @@ def held(watch, is_written):
     """Holds the reading order of docs/theorems.md, which has beside each file how many of its lines ran, or writes it
     anew."""
     files = {str(path.relative_to(TOP)): f"{len(run)}/{len(every)}"
-             for path, (every, run) in counted(*watch, data.CLAUSES[:data.READ]).items()}
+             for path, (every, run) in counted(watch.d, watch.ran, data.CLAUSES[:data.READ]).items()}
     text = PAGE.read_text()
     wrong = [f"docs/theorems.md has {said} for {path}, and {files.get(path)} ran"
              for path, said in ORDERED.findall(text) if files.get(path) != said]

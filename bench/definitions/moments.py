@@ -89,20 +89,29 @@ class Moments:
 class Waits:
     """An access of each kind behind an overflow: in the data, in the code, nowhere, and at an odd address."""
 
-    name, about = "waits", "each access while a trap is pending, where it goes well and where it would fault"
+    name, about = "waits", ("each access while a trap is pending, where it goes well and where it would fault, and "
+                            "words of other classes")
     counts = {"sample": 1, "whole": 1}
     is_quick = True
     PLACES = ((5, 8), (27, 8), (31, 8), (5, 9))
 
+    # R5 has an address of data and R27 that of the code; no register that is tested is 0 but R31.
+    OTHERS = ([drawn.branch(name, register, far) for name in drawn.BRANCHES for register in (8, 31) for far in (0, 1)]
+              + [drawn.jump(kind, 8, 27) for kind in range(4)]
+              + [drawn.memory("lda", 8, 5, 8), drawn.memory("ldah", 8, 5, 8), drawn.operate("addq", 1, 1, 8),
+                 drawn.operate("subl/v", 1, 5, 8), drawn.operate("cmoveq", 31, 1, 8), drawn.TRAPB | 0x400, 0x63FF4000,
+                 0x63E88000, 0x86, 0x9E, 0x9F, 0xAA, drawn.CALLSYS])
+
     def cases(self, chooser, count, asked):
-        for name in drawn.ACCESSES:
-            for base, displacement in self.PLACES:
-                words = [drawn.memory("ldah", 5, 31, 0x1000), drawn.memory("ldq", 1, 5, 0),
-                         drawn.operate("addq/v", 1, 1, 7),
-                         drawn.memory(name, 8, base, displacement), drawn.TRAPB]
-                segment = image.Segment(drawn.DATA, ((1 << 63) - 1).to_bytes(8, "little") * 3)
-                whole = image.Image(words, drawn.CODE, drawn.CODE, [segment], drawn.STACK, 0)
-                yield case_of(whole, "wrap", (((False, 3, 4, False), b""),) * 8)
+        accesses = [drawn.memory(name, 8, base, displacement) for name in drawn.ACCESSES
+                    for base, displacement in self.PLACES]
+        for word in accesses + self.OTHERS:
+            choice = False, 3, 4, word in self.OTHERS
+            words = [drawn.memory("ldah", 5, 31, 0x1000), drawn.memory("ldq", 1, 5, 0),
+                     drawn.operate("addq/v", 1, 1, 7), word, drawn.TRAPB, drawn.TRAPB]
+            segment = image.Segment(drawn.DATA, ((1 << 63) - 1).to_bytes(8, "little") * 3)
+            whole = image.Image(words, drawn.CODE, drawn.CODE, [segment], drawn.STACK, 0)
+            yield case_of(whole, "wrap", ((choice, b""),) * 8)
 
     difference, trap, run = Moments.difference, Moments.trap, Moments.run
 

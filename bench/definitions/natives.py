@@ -5,6 +5,7 @@ speed alone has its text in the kit, and `tests` holds it against the translatio
 language has no text, and is held against values.
 """
 from collections import namedtuple
+from itertools import chain
 
 # `sort` is of a type: "data", or "bool"; None for a term or a fact. `fixity` is of an operator.
 Made = namedtuple("Made", "count code sort fixity")
@@ -74,7 +75,7 @@ NATIVES = {
     ("Rattle.core.specs.List", "concat"): term(1, "flattened({0})"),
     ("Rattle.core.specs.List", "flat_map"): term(2, "flattened(map({0}, {1}))"),
     # Some forty thousand of them in a run of twenty steps.
-    ("Rattle.alpha_imprecise.specs.ChosenRun", "first_words"): term(2, "tuple(map({1}, range({0})))"),
+    ("Rattle.alpha_imprecise.specs.ChosenRun", "first_words"): term(2, "first_words({0}, {1})"),
     # Texts are the numbers of their characters.
     ("lib.Chars", "codes"): term(1, "tuple(map(ord, {0}))"),
 }
@@ -109,9 +110,13 @@ def slice_get(items, at):
 
 
 def flattened(lists):
-    return tuple(item for items in lists for item in items)
+    return tuple(chain.from_iterable(lists))
+
+
+def first_words(count, ahead):
+    """Words that are kept as far as they are made are a front of these."""
+    return ahead.first(count) if hasattr(ahead, "first") else tuple(map(ahead, range(count)))
 
 
 HELPERS = {"quotient": quotient, "remainder": remainder, "power": power, "get_or": get_or, "list_set": list_set,
-           "slice_get": slice_get,
-           "flattened": flattened}
+           "slice_get": slice_get, "flattened": flattened, "first_words": first_words}

@@ -1,4 +1,4 @@
-"""Functions of a number whose values are made one of the other."""
+"""Functions whose values are kept: by the number below, or by all arguments."""
 
 
 class Rows:
@@ -22,6 +22,28 @@ class Rows:
             value = self.function(*others, latest[0] + 1)
             latest[:] = latest[0] + 1, value, value is latest[1]
         return latest[1]
+
+    def cache_clear(self):
+        self.known.clear()
+
+
+class Kept:
+    """A function whose values are kept by its arguments, with the lines that were run for each: whoever asks again has
+    run them too. `run` is what notes the lines."""
+
+    MOST = 1 << 15
+
+    def __init__(self, function, run):
+        self.function, self.run, self.known = function, run, {}
+
+    def __call__(self, *arguments):
+        if arguments not in self.known:
+            if len(self.known) >= self.MOST:
+                self.known.clear()
+            self.known[arguments] = self.run.within(self.function, arguments)
+        value, lines = self.known[arguments]
+        self.run.seen |= lines
+        return value
 
     def cache_clear(self):
         self.known.clear()

@@ -47,14 +47,15 @@ class Definitions:
         return self.translation.count(self.by_name[name])
 
     def forget(self):
-        """Forgets remembered values, but those of words."""
-        for name in data.BY_ROWS:
+        """Forgets the values that are remembered for a case alone."""
+        for name in data.BY_ROWS | data.BY_CASES:
             function = self(name)
             if hasattr(function, "cache_clear"):
                 function.cache_clear()
 
     def given(self, **values):
         """Hands in the members of domains."""
+        self.forget()
         self.translation.space["given"].clear()
         self.translation.space["given"].update(values)
 

@@ -1,12 +1,17 @@
 """Answers of `run` and `run --imprecise`: against programs whose output was measured elsewhere, and the built
 program."""
+from itertools import chain, repeat
+
 from . import drawn
+from .data import Ahead
 from .reference import NONE, parts_of, program_of, some, status_of
 from .reference import image as images
 from .translate import record
 from .words import VECTORS, rows
 
-LEAST_KNOWN, MOST_STEPS = 40, {"sample": 700, "whole": 60_000}
+MOST_STEPS = {"sample": 700, "whole": 60_000}
+# Runs by words that lie ahead have two thousand of them a step.
+MOST_AHEAD = 9
 
 
 def file_bytes(name):
@@ -125,14 +130,26 @@ class Late:
         begun = d("alpha_imprecise.ChosenRun.begun")(start, given, NONE, 0, chosen)
         making = d("alpha_imprecise.ChosenRun.chosen_run")(program, begun, steps)
         run = d("alpha_imprecise.ChosenRun.imprecise")(program, given, chosen, steps, watch)
-        is_shown = run == d("alpha_imprecise.ChosenRun.shown_chosen_run")(watch, making)
+        is_shown = run.drawn == making.count and run == d("alpha_imprecise.ChosenRun.shown_chosen_run")(watch, making)
         if not is_shown or not self.is_listed(d, program, start, given, chosen, making):
             return f"{whole.spelled().hex()} by {how}: the list of its steps is another run"
+        if steps <= MOST_AHEAD and not self.is_by_those_ahead(d, case, program, run):
+            return f"{whole.spelled().hex()} by {how}: another run by words that lie ahead"
         if not is_forced:
             run = d("alpha_cmd.Commands.Imprecise.with_drawn")(d("alpha_seq.Run.sequential")(program, given, steps,
                                                                                              watch), run.drawn)
         found = shown(d("alpha_cmd.Commands.Imprecise.answer_imprecise")(some(given), run))[:3]
         return "" if found == answered else f"{whole.spelled().hex()} by {how}: {found}, and {answered} is wanted"
+
+    def is_by_those_ahead(self, d, case, program, run):
+        """Whether the run by these words and zeros behind them is the same; where it isn't forced it shows the
+        sequential one."""
+        _, _, steps, watch, _, given, chosen, _ = case
+        found = [d("alpha_cmd.Commands.Imprecise.run_by")(is_forced, program, tuple(given),
+                                                          Ahead(chain(chosen, repeat(0)).__next__), steps, watch)
+                 for is_forced in (True, False)]
+        sequential = d("alpha_seq.Run.sequential")(program, tuple(given), steps, watch)
+        return found == [run, d("alpha_cmd.Commands.Imprecise.with_drawn")(sequential, run.drawn)]
 
     def is_listed(self, d, program, start, given, chosen, making):
         """Whether the list of its steps is a run over this input by these words, and over no other input and no

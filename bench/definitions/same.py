@@ -20,6 +20,9 @@ BRANCH = "a word whose opcode has bit 5 more is a branch, and is taken for one b
 NUMBER = "bit 25 is the highest of the call's number, and no call has it"
 LOW = "the low 32 bits of a sum, a difference or a product are by the low 32 bits of the sources alone"
 BYTES = "a register has eight bytes, and a mask eight bits"
+STARTS = "with nothing pending no count of words since a trigger is looked at, and the next step sets it"
+ALIKE = "of two texts that are compared none comes first"
+FIRST = "the first difference of two lists is that of the second and the first one"
 # The longword operations, whose sources may be read as quadwords.
 LONGWORDS = ("Addl", "AddlV", "S4addl", "S8addl", "Subl", "SublV", "S4subl", "S8subl", "Mull", "MullV")
 
@@ -43,6 +46,9 @@ SAME = {
     "alpha_imprecise:choice_of Triggered: false becomes true": TRIGGER,
     "alpha_imprecise:choice_of Triggered: false becomes true (2)": TRIGGER,
     "alpha_imprecise:triggered: 0 becomes 1": PLACED,
+    "alpha_imprecise:imprecise: 0 becomes 1": STARTS,
+    "alpha_replay:run_fault: arguments 2 and 3 change places": FIRST,
+    "alpha_request:is_given Some: arguments 1 and 2 change places": ALIKE,
     "alpha_shadow:ExposedIn below: ◌<◌ becomes ◌≤◌": BEHIND,
     "alpha_shadow:Holds SameDestination: part 2 is left out": ALONE,
     **{f"alpha_table:{one}_in: 25 becomes 26": EVEN for one in ("fetch", "jump", "misc", "pal")},

@@ -42,6 +42,16 @@ def script_of(chooser, whole):
     return (end.join(lines) + chooser.choice(("", end, end + end))).encode()
 
 
+def worked(whole):
+    """A script with each command, of which some change what others show, for a program that ends soon."""
+    first, last = whole.entry, whole.address(len(whole.words) - 1)
+    lines = ["shadow", "regs", "log", f"mem {drawn.DATA:#x} 17", f"mem {drawn.DATA + 7} 16", f"dis {first} 9",
+             f"dis {last:#x} 2", f"break {first + 12}", f"break {first + 12}", f"break {last}", "barrier", "regs", "go",
+             "step 2", "go", "log", f"clear {first + 12}", "barrier", "regs", f"mem {drawn.DATA} 48", "go", "go",
+             "step", "barrier", "log", "regs"]
+    return "\n".join(lines).encode()
+
+
 def command_by(line):
     """What a line of a script asks for, by docs/debugger.md."""
     words = line.replace("\t", " ").split(" ")
@@ -83,6 +93,10 @@ class Commands:
             words = [chooser.choice(self.NAMES), *rest]
             line = chooser.choice((" ", " ", "\t", "  ")).join(words)
             yield chooser.choice(("", "", "", " ")) + line + chooser.choice(("", "", "", "\t "))
+        yield from self.NAMES
+        yield from (f"step {count}" for count in (0, 1, 1_000_000, 1_000_001))
+        yield from (f"{name} 0 {count}" for name in ("mem", "dis") for count in (0, 1, 256, 257))
+        yield from (f"{name} {number}" for name in ("break", "clear") for number in (0, (1 << 64) - 1, 1 << 64))
         for size in (MOST_LINE, MOST_LINE + 1):
             yield from ("step".ljust(size), " " * size)
 
@@ -93,7 +107,7 @@ class Commands:
 
 class Sessions:
     name, about = "sessions", "`runs` of calls of `debug` over scripts, as they were, and with something else"
-    counts = {"sample": 12, "whole": 1_000}
+    counts = {"sample": 30, "whole": 1_000}
     is_quick = False
     # What is otherwise, and whether the clause holds then; None where that is told beside.
     WAYS = {"as it was": True, "pieces": True, "idle": True, "told": True, "told otherwise": False, "memory": True,
@@ -106,7 +120,8 @@ class Sessions:
     def cases(self, chooser, count, asked):
         for n in range(count):
             whole = drawn.program(chooser, n % 3 == 0, 1 + n % 5 // 4, n % 2)
-            script, other = (script_of(chooser, whole) for _ in range(2))
+            is_worked = n % 4 == 1 and steps_to_end(whole, "wrap", b"") is not None
+            script, other = worked(whole) if is_worked else script_of(chooser, whole), script_of(chooser, whole)
             answers = [asked.call("debug", "FILE", given=one, FILE=whole.spelled()) for one in (script, other)]
             yield whole, script, other, answers, chooser.getrandbits(32)
 
@@ -119,6 +134,8 @@ class Sessions:
         settings = self.settings(whole)
         d.given(images=[parts_of(whole), parts_of(bad)], settings=list(settings.values()), events=[], plans=[],
                 pieces=[(content,), (content[:-1], content[-1:]), (content + (0,),), (tuple(bad.spelled()),)])
+        if not self.goes_on(d, settings["own"], tuple(script), out):
+            return f"{script} at {whole.spelled().hex()}: another session where some of it is a line begun"
         for way, wanted in self.WAYS.items():
             text = other_out if way == "script" else out
             if way in settings:
@@ -129,6 +146,13 @@ class Sessions:
             if found != wanted:
                 return f"{way} of {script} at {whole.spelled().hex()}: {found}, and {wanted} is wanted"
         return ""
+
+    def goes_on(self, d, setting, script, out):
+        """Whether a session whose first line is begun says the same."""
+        opened, from_ = d("alpha_debug.Session.opened")(setting), d("alpha_debug.Script.transcript_from")
+        begun = next((at for at, byte in enumerate(script) if byte in b"\r\n"), len(script))
+        found = from_(setting, opened, len(script), script[:begun], script[begun:])
+        return bytes(found.text) == out and found.end == ("Done",)
 
     def settings(self, whole):
         """The setting of a session, and such as it doesn't have: with another verdict, and by another completion."""

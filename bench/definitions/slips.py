@@ -235,61 +235,48 @@ def chosen(made, ran, number):
     return first + more
 
 
-def child(numbers, known, out):
-    """Tries slips one after another, and writes what comes of each. One that takes too long ends the process."""
+def child(number, known, out):
+    """Tries one slip, and writes what comes of it. One that takes too long ends the process."""
     resource.setrlimit(resource.RLIMIT_AS, (4 << 30, resource.RLIM_INFINITY))
     sys.setrecursionlimit(30_000)
     gc.disable()  # There is much that stays, and little that must be looked for.
     d, slips, made, ran = known
-    for number in numbers:
-        os.write(out, f"{number}\tbegun\n".encode())
-        signal.setitimer(signal.ITIMER_PROF, LONGEST)
-        found = tried(d, slips[number], chosen(made, ran, slips[number][1]))
-        os.write(out, f"{number}\t{' '.join(found.split())[:150] or 'not found'}\n".encode())
+    signal.setitimer(signal.ITIMER_PROF, LONGEST)
+    found = tried(d, slips[number], chosen(made, ran, slips[number][1]))
+    os.write(out, (" ".join(found.split())[:150] or "not found").encode())
     os._exit(0)
 
 
 class Worker:
-    """A process that tries some of the slips; where one ends it another goes on behind it."""
+    """Tries some of the slips, each in a process of its own, so that none sees what another one left."""
 
     def __init__(self, numbers, known):
-        self.numbers, self.known, self.results, self.current = numbers, known, {}, None
+        self.waiting, self.known, self.results = list(numbers), known, {}
         self.start()
 
     def start(self):
-        left = [number for number in self.numbers if number not in self.results]
+        self.current, self.text = self.waiting.pop(0), b""
         self.pipe, out = os.pipe()
         self.process = os.fork()
         if self.process == 0:
             try:
-                child(left, self.known, out)
+                child(self.current, self.known, out)
             finally:
                 os._exit(1)
         os.close(out)
-        self.text = b""
 
     def read(self):
         """Reads what has come; False at the end."""
         content = os.read(self.pipe, 1 << 16)
-        *rows, self.text = (self.text + content).split(b"\n")
-        for row in rows:
-            number, _, what = row.decode("utf-8", "replace").partition("\t")
-            self.current = int(number)
-            if what != "begun":
-                self.results[int(number)] = what
+        self.text += content
         if content:
             return True
         os.close(self.pipe)
         _, status = os.waitpid(self.process, 0)
         is_late = os.WIFSIGNALED(status) and os.WTERMSIG(status) == signal.SIGPROF
-        return self.is_again("TimeoutError: no end" if is_late else "MemoryError: it ended")
-
-    def is_again(self, what):
-        """Whether slips are left; then it goes on behind the present one."""
-        if len(self.results) == len(self.numbers):
-            return False
-        self.results.setdefault(self.current, what)
-        if len(self.results) < len(self.numbers):
+        ended = "TimeoutError: no end" if is_late else "MemoryError: it ended"
+        self.results[self.current] = self.text.decode("utf-8", "replace") or ended
+        if self.waiting:
             self.start()
             return True
         return False
@@ -308,11 +295,11 @@ def results(numbers, known):
 def tell(made, watch, count, names, chooser):
     """Tries so many slips of those with these names, all where it is 0, and tells which no case finds and nobody has
     explained."""
-    (watch, ran), d = watch, Definitions()
+    d = Definitions()
     slips = all_slips(d)
     # Lines are numbered as they are read, which a watched translation may do in another order.
-    numbers = {place: number for number, place in places_of(watch).items()}
-    ran = {number: ran.get(numbers.get(place), []) for number, place in places_of(d).items()}
+    numbers = {place: number for number, place in places_of(watch.d).items()}
+    ran = {number: watch.ran.get(numbers.get(place), []) for number, place in places_of(d).items()}
     drawn = [number for number, slip in enumerate(slips) if not names or any(name in slip[3] for name in names)]
     if count:
         drawn = sorted(chooser.sample(drawn, min(count, len(drawn))))

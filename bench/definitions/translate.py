@@ -14,7 +14,7 @@ from .core import (KINDS, Binder, Call, Case, Native, Put, Resolver, Tuple, Use,
                    is_record, replaced, text_of)
 from .natives import HELPERS, NATIVES
 from .reader import Unknown
-from .rows import Rows
+from .rows import Kept, Rows
 from .solving import Search
 from .sources import Missing, Sources
 
@@ -52,14 +52,30 @@ class Translation:
 
     def __init__(self, sources=None, is_watched=False):
         self.sources = sources or Sources(NATIVES)
-        self.is_watched, self.seen = is_watched, set()
+        self.is_watched = is_watched
         self.known, self.functions, self.refused, self.waiting, self.inlined, self.finders = {}, {}, {}, [], {}, {}
         self.space = dict(HELPERS, Unmatched=Unmatched, record_type=record_type, seen=self.saw, data=data, given={})
         self.current = None
+        self.note_into(set())
+
+    # ---- which lines are run
+
+    def note_into(self, lines):
+        self.seen, self.space["note"] = lines, lines.add
 
     def saw(self, number):
         self.seen.add(number)
         return True
+
+    def within(self, function, arguments):
+        """A function's value, and the lines that were run for it."""
+        outer = self.seen
+        self.note_into(set())
+        try:
+            return function(*arguments), frozenset(self.seen)
+        finally:
+            outer |= self.seen
+            self.note_into(outer)
 
     # ---- what is reached
 
@@ -103,11 +119,12 @@ class Translation:
 
     def keep(self, declaration, name):
         """Wraps a function whose values are kept."""
-        count = self.count(declaration)
-        if key_of(declaration) in data.BY_ROWS and self.goes_by_rows(declaration):
+        key = key_of(declaration)
+        if key in data.BY_ROWS and self.goes_by_rows(declaration):
             self.space[name] = Rows(self.space[name])
-        elif key_of(declaration) in data.REMEMBERED or not count:
-            self.space[name] = functools.lru_cache(1 << 17)(self.space[name])
+        elif key in data.REMEMBERED | data.BY_CASES or not self.count(declaration):
+            own = self.space[name]
+            self.space[name] = Kept(own, self) if self.is_watched else functools.lru_cache(Kept.MOST)(own)
 
     def goes_by_rows(self, declaration):
         """Whether each value is made of the one below alone: the number stands only in the call of it."""
@@ -162,8 +179,10 @@ class Translation:
         while isinstance(body, Put):
             rows.append(f"        {body.name} = {self.code(body.value)}")
             body = body.body
-        seen = [f"        seen({line.number})"] if self.is_watched else []
-        return rows + seen + [f"        return {self.code(body)}"]
+        return rows + self.noting(line) + [f"        return {self.code(body)}"]
+
+    def noting(self, line):
+        return [f"        note({line.number})"] if self.is_watched else []
 
     # ---- what an argument may be
 
@@ -190,7 +209,7 @@ class Translation:
         rows = [f"def {name}({', '.join(names)}):"]
         for line in self.lines_of(declaration):
             rows += self.matched(names, line.left[:at] + line.left[at + 1:])
-            rows += [f"        seen({line.number})"] if self.is_watched else []
+            rows += self.noting(line)
             sought = line.left[at]
             found = Search(self, "each", [line.body], sought, binders=[Binder(sought.name, "data", None, {})]).code()
             rows.append(f"        return {found}")
@@ -314,7 +333,7 @@ class Translation:
             made = NATIVES[head.key]
             if made.code is None:
                 raise Unknown(f"{self.current.place()}: {self.current.name}: a type stands where a term should")
-            return self.applied(made.count, lambda given: made.code.format(*given), codes)
+            return short(head.key[1], codes) or self.applied(made.count, lambda given: made.code.format(*given), codes)
         if isinstance(head, Case):
             return self.applied(head.count, lambda given: f"({', '.join([repr(head.name)] + given)},)", codes)
         if isinstance(head, Use):
@@ -385,6 +404,16 @@ class Translation:
 SHAPES = {"zero": ("{0} == 0", []), "suc": ("{0} > 0", ["({0} - 1)"]), "[]": ("not {0}", []),
           "◌∷◌": ("{0}", ["{0}[0]", "{0}[1:]"]), "true": ("{0}", []), "false": ("not {0}", []),
           "pos": ("{0} >= 0", ["{0}"]), "negsuc": ("{0} < 0", ["(-{0} - 1)"])}
+
+
+def short(name, codes):
+    """A power of two numbers that are written out, and a quotient or remainder by such a number, as Python has them."""
+    if len(codes) == 2 and codes[1].isdigit() and int(codes[1]):
+        if name == "◌^◌" and codes[0].isdigit() and int(codes[1]) <= 1 << 10:
+            return str(int(codes[0]) ** int(codes[1]))
+        if name in ("◌/◌", "◌%◌"):
+            return f"({codes[0]} {'//' if name == '◌/◌' else '%'} {codes[1]})"
+    return None
 
 
 def key_of(declaration):

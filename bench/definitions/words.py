@@ -53,7 +53,8 @@ class Words:
     is_quick = True
     # A word of each format, of which each bit is changed.
     FORMS = (drawn.memory("ldq", 1, 2, 8), drawn.branch("br", 31, 1), drawn.jump(0, 26, 27),
-             drawn.operate("bis", 1, 2, 3), drawn.TRAPB, 0x63E88000, drawn.CALLSYS)
+             drawn.operate("bis", 1, 2, 3), drawn.operate("implver", 31, 0, 3, 0), drawn.TRAPB, 0x63E88000,
+             drawn.CALLSYS)
 
     def cases(self, chooser, count, asked):
         made = [(int(number, 16), class_by_line(line)) for line, number in rows("encodings.tsv")]
