@@ -26,8 +26,8 @@ class Calls(Folder):
     def read(self, name):
         return read(self.path(name))
 
-    def made(self, name, text):
-        """The image of a source, that is made without being told."""
+    def assemble(self, name, text):
+        """Makes the image of a source, without telling it."""
         kept = self.path(name)
         subprocess.run([self.program, "asm", self.keep("text", text.encode()), kept], check=True)
         return kept

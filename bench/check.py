@@ -53,7 +53,7 @@ def milliseconds(program, name, contents):
     print_times(name, rows)
 
 
-def counted(program, contents):
+def count(program, contents):
     with file_of(contents) as file:
         return instructions([program, "check", file.name])
 
@@ -74,9 +74,9 @@ def main():
     milliseconds(program, "short shadows, 16 MiB of data", image(short, data))
     milliseconds(program, "short shadows, 8 segments of 2 MiB", level_image(short, 8, data))
     if counts_instructions():
-        start = counted(program, image([NOP]))
+        start = count(program, image([NOP]))
         for name, code in cases.items():
-            print(f"{name}: {(counted(program, image(code)) - start) / WORDS:.1f} instructions a word")
+            print(f"{name}: {(count(program, image(code)) - start) / WORDS:.1f} instructions a word")
 
 
 if __name__ == "__main__":

@@ -98,7 +98,7 @@ class Outcome:
                       "time" if self.seconds > SECONDS else "memory" if self.megabytes > MEGABYTES else None)
 
 
-def called(words, program, folder):
+def call_companion(words, program, folder):
     """Calls a companion. `journal first` tells on its output what is wrong, the others on standard error why they
     refuse."""
     notes_path, out = os.path.join(folder, "notes"), os.path.join(folder, "out")
@@ -127,7 +127,7 @@ def trial(number, seed, whole, named, program):
         words = [path if word == "FILE" else word.replace("OUT", os.path.join(folder, "out")) if word.startswith("OUT")
                  else
                  named.get(word, word) for word in call.split()]
-        outcome, kept = called(words, program, folder), None
+        outcome, kept = call_companion(words, program, folder), None
         if outcome.wrong:
             kept = os.path.join(tempfile.gettempdir(), f"damaged-{seed}-{number}")
             os.rename(path, kept)

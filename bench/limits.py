@@ -63,7 +63,7 @@ def copying(turns, more=0, between="", end="on: br on"):
     return COPY.format(more=more, high=turns >> 16, low=turns & 0xFFFF, between=between, end=end)
 
 
-def recorded(calls):
+def records(calls):
     """One run whose journal is at all four limits, by the largest file of choices, and those that are past one of
     them."""
     chance = random.Random(5)
@@ -73,8 +73,8 @@ def recorded(calls):
     items = [units(FRONT)] + [trigger(value) + REPORT + units(3) for value in values]
     items[-1] = trigger(values[-1]) + REPORT + units(3 + rest)
     whole = journal(items, ITEMS, given, given)
-    file, many = calls.made("all", copying(TURNS)), calls.made("many", copying(TURNS + 1))
-    more, drawn = calls.made("more", copying(TURNS, 1)), calls.keep("choices", choices)
+    file, many = calls.assemble("all", copying(TURNS)), calls.assemble("many", copying(TURNS + 1))
+    more, drawn = calls.assemble("more", copying(TURNS, 1)), calls.keep("choices", choices)
 
     def record(image_file, steps, choices_file=drawn):
         return "record", "--choices", choices_file, "--steps", str(steps), image_file, calls.path("kept")
@@ -107,7 +107,7 @@ def longest(calls):
     items = [units(FRONT)] + [trigger(n) + wait(n) * count + REPORT + units(last) for n, count in enumerate(waits)]
     items[-1] = trigger(1) + wait(1) * (left - 3) + REPORT + units(last + 3)
     end = "clr $16\nlda $0,1($31)\ncallsys"
-    file = calls.made("waits", copying(len(waits), between="nop\n" * WAITED, end=end))
+    file = calls.assemble("waits", copying(len(waits), between="nop\n" * WAITED, end=end))
     whole = journal(items, ITEMS, given, given, 1)
     answer = f"run units {FRONT + len(waits) * (1 + last) + 3} reports {len(waits)}\n"
     calls.call(f"the longest journal, {len(whole):,} bytes", "replay", file, calls.keep("journal", whole),
@@ -385,7 +385,7 @@ def debugs(calls):
 def main():
     with tempfile.TemporaryDirectory() as folder:
         calls = Calls(the_program(), folder)
-        for makes in (debugs, images, sources, barriers, links, waiting, longest, recorded):
+        for makes in (debugs, images, sources, barriers, links, waiting, longest, records):
             makes(calls)
         calls.call("the largest trial", "trial", "20000", out=written(20_000).encode())
         calls.refuses("a block more", "trial", "20001", status=2, notes="words")

@@ -88,7 +88,7 @@ class Links(Folder):
     def run(self, *words):
         subprocess.run([self.program, *words], check=True)
 
-    def sized(self, name, files, per, what):
+    def measure(self, name, files, per, what):
         """What a link takes for each of `per` items, and of memory beside modules and image."""
         command = [self.program, "link", self.path("image"), *files]
         subprocess.run(command, check=True)
@@ -113,7 +113,7 @@ def many(folder, count):
         folder.run("module", text, files[-1])
     symbols = 2 * LABELS * count + 1
     name = f"{count} modules of {WORDS} words with {symbols} symbols in all"
-    each = folder.sized(name, files, WORDS * count, "word")
+    each = folder.measure(name, files, WORDS * count, "word")
     if counts_instructions():
         whole = folder.keep("whole", ("".join(sources) + ".entry start\n").encode())
         small = folder.keep("few", b"start: ret\n.entry start\n")
@@ -125,7 +125,7 @@ def many(folder, count):
 def many_short(folder, count, size):
     """So many modules of so many MiB, all of them short names that differ."""
     files = [folder.keep(f"s{number}", short_names(size * MEBIBYTE, number)) for number in range(count)]
-    folder.sized(f"{count} modules of {size} MiB, short names", files, sum(map(os.path.getsize, files)), "byte")
+    folder.measure(f"{count} modules of {size} MiB, short names", files, sum(map(os.path.getsize, files)), "byte")
     for file in files:
         os.remove(file)
 
@@ -191,7 +191,7 @@ def large(folder):
                              (20, many_names, "most code and data"), (20, short_names, "short names"),
                              (20, quadwords, "quadwords")):
         file = folder.keep("module", make(size * MEBIBYTE))
-        folder.sized(f"a module of {size} MiB, {kind}", [file], os.path.getsize(file), "byte")
+        folder.measure(f"a module of {size} MiB, {kind}", [file], os.path.getsize(file), "byte")
     for count, size in ((16, 5), (64, 1)):
         many_short(folder, count, size)
 

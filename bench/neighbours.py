@@ -48,7 +48,7 @@ def folder_of(trial, name, mode=0o755):
     return path, os.path.join(path, "out")
 
 
-def kept(trial, what, out, folder, more=()):
+def keep_over(trial, what, out, folder, more=()):
     """Keeps OUT: it is the new one, and nothing else but it is in its folder."""
     done = trial.asm(out)
     trial.check(f"{what}: status {done.returncode}", done.returncode == 0 and trial.read(out) == trial.new)
@@ -63,7 +63,7 @@ def taken_names(trial):
     for name in names:
         put(os.path.join(folder, name), b"")
     for _ in range(3):
-        kept(trial, "a thousand names of new files", out, folder, names)
+        keep_over(trial, "a thousand names of new files", out, folder, names)
     print("names that are there: none was in the way")
 
 
@@ -74,7 +74,7 @@ def other_owners(trial):
         for mode in (0o600, 0o640, 0o644, 0o664):
             put(out, OLD, mode, owner)
             before = os.stat(out)
-            kept(trial, f"a file of {owner}", out, folder)
+            keep_over(trial, f"a file of {owner}", out, folder)
             after = os.stat(out)
             same = (after.st_uid, after.st_gid, after.st_mode, after.st_ino) == (*owner, before.st_mode, before.st_ino)
             trial.check(f"a file of {owner} with mode {mode:o} isn't written in place", same)
@@ -123,7 +123,7 @@ def access_lists(trial):
                     subprocess.run(["setfacl", "-m", entries, out], check=True)
                 before = access(out)
                 what = f"mode {mode:o} with {entries} in a folder with {default}"
-                kept(trial, what, out, folder)
+                keep_over(trial, what, out, folder)
                 more = {(user, how) for user, how in access(out) - before
                         if not os.stat(out).st_mode & {"r": 4, "w": 2}[how]}
                 trial.check(f"{what}: {sorted(more)} may do more", not more)
@@ -179,7 +179,7 @@ def mounted(trial):
     if subprocess.run(["mount", "--bind", below, out], capture_output=True).returncode:
         return print("left out: a mounted OUT: nothing can be mounted here")
     try:
-        kept(trial, "a mounted OUT", out, folder)
+        keep_over(trial, "a mounted OUT", out, folder)
         trial.check("a mounted OUT: what is mounted isn't new", trial.read(below) == trial.new)
     finally:
         subprocess.run(["umount", out], check=True)
@@ -193,7 +193,7 @@ def append_only(trial):
         return print("left out: an append-only folder: none can be made here")
     try:
         for _ in range(3):
-            kept(trial, "an append-only folder", out, folder)
+            keep_over(trial, "an append-only folder", out, folder)
     finally:
         subprocess.run(["chattr", "-a", folder], check=True)
     print("an append-only folder: OUT is written in place, and nothing is left")

@@ -47,14 +47,14 @@ class Slow(Exception):
     """A run that took too much of the processor's time."""
 
 
-def limited(seconds):
+def limit_seconds(seconds):
     """Ends this process by SIGXCPU when it has had so much of the processor's time."""
     resource.setrlimit(resource.RLIMIT_CPU, (seconds, seconds + 1))
 
 
 def call(*words, given=None):
     done = subprocess.run(words, input=given, capture_output=True, check=False,
-                          preexec_fn=lambda: limited(MORE_SECONDS))
+                          preexec_fn=lambda: limit_seconds(MORE_SECONDS))
     if done.returncode == -signal.SIGXCPU:
         raise Refused(f"{os.path.basename(words[0])}: took more than {MORE_SECONDS} seconds")
     if done.returncode:
@@ -73,7 +73,7 @@ def cause(notes):
 def outcome(path):
     """The output and the status of a run under qemu-alpha."""
     done = subprocess.run(["qemu-alpha", path], input=b"", capture_output=True, check=False,
-                          preexec_fn=lambda: limited(SECONDS))
+                          preexec_fn=lambda: limit_seconds(SECONDS))
     if done.returncode in (-signal.SIGXCPU, -signal.SIGKILL):
         raise Slow
     return done.stdout, done.returncode
@@ -92,7 +92,7 @@ def be_companion(name, words, notes):
     try:
         for number, path in ((0, os.devnull), (1, os.devnull), (2, notes)):
             os.dup2(os.open(path, os.O_RDWR | os.O_CREAT | os.O_TRUNC, 0o600), number)
-        limited(MORE_SECONDS)
+        limit_seconds(MORE_SECONDS)
         sys.argv = [os.path.join(COMPANIONS, name), *words]
         sys.stderr = open(2, "w", encoding="utf-8", closefd=False)
         runpy.run_path(sys.argv[0], run_name="__main__")
@@ -136,7 +136,7 @@ class Trial(Folder):
         self.companion("shadowfix", self.path("p.s"), "-o", self.path("text.s"))
         self.link("text.s", "text.elf")
         self.companion("elf2image", self.path("text.elf"), self.path("text.img"))
-        return self.judged("text.img")
+        return self.judge("text.img")
 
     def aside(self):
         self.companion("elf2image", self.path("p.elf"), self.path("p.img"), "--map", self.path("p.map"))
@@ -146,16 +146,16 @@ class Trial(Folder):
                        self.path("aside.s"))
         call(self.program, "asm", self.path("aside.s"), self.path("aside.img"))
         self.companion("same", self.path("p.img"), self.path("aside.img"), "--symbols", self.path("p.map"))
-        return self.judged("aside.img")
+        return self.judge("aside.img")
 
-    def judged(self, made):
-        call(self.program, "check", self.path(made))
-        out = self.path(made.replace(".img", ".again.elf"))
-        self.companion("image2elf", "--alpha", self.program, self.path(made), out)
+    def judge(self, image):
+        call(self.program, "check", self.path(image))
+        out = self.path(image.replace(".img", ".again.elf"))
+        self.companion("image2elf", "--alpha", self.program, self.path(image), out)
         return SAME if outcome(out) == self.wanted else OTHER
 
 
-def tried(trial):
+def repair(trial):
     """What becomes of a program at a level, by way."""
     program, number, level, keep = trial
     with tempfile.TemporaryDirectory() as folder:
@@ -196,7 +196,7 @@ def count_repairs(options):
     trials = [(os.path.abspath(options.program), number, level, options.keep)
               for number in range(options.first, options.first + options.count) for level in options.levels.split(",")]
     with multiprocessing.Pool(options.jobs, load_parts) as pool:
-        for (_, number, level, _), found in zip(trials, pool.imap(tried, trials)):
+        for (_, number, level, _), found in zip(trials, pool.imap(repair, trials)):
             done += 1
             for way, what in found.items():
                 counts[level, way, what] += 1
