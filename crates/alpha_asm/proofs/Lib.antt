@@ -16,4 +16,4 @@ pub mod RefusedReading
 pub mod ModuleLines
 pub mod Levels
 pub mod KnownLines
-pub mod Gathered
+pub mod LayoutInsns

@@ -3,7 +3,7 @@ use Rattle.std.specs.Str.Lines.{lines}
 use Rattle.alpha_asm.specs.Labels.{location_named}
 use Rattle.alpha_asm.specs.LineKinds.{kinds_of}
 use Rattle.alpha_asm.specs.Assembled.{item_at}
-use Rattle.alpha_asm.proofs.Gathered.{layout-insns}
+use Rattle.alpha_asm.proofs.LayoutInsns.{layout-insns}
 use Rattle.alpha_asm.proofs.symbols.assemble_with_symbols.Goals as goal
 
 pub invariant_of-result : goal.invariant_of-result

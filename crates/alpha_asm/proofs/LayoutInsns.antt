@@ -1,4 +1,4 @@
--- What is gathered of a source.
+-- The instructions of a layout, in the order of its items.
 use Rattle.std.proofs.Common.{◌≡◌, ℕ, ◌+◌, List, [], ◌∷◌, ◌++◌, refl, ap}
 use Rattle.std.specs.List.{flat_map}
 use Rattle.alpha_text.specs.Reading.{LineStmt}
