@@ -160,6 +160,11 @@ WORKED = [
     ("alpha_imprecise.ChosenRun.lost_trap", (("Triggered", 5),), NONE),
     ("alpha_imprecise.ChosenRun.lost_trap", (("Reported", 8),), NONE),
     ("alpha_imprecise.Step.can_wait", (NONE, state()), False),
+    ("alpha_seq.Step.next_pc", (state(pc=MASK - 3),), 0),
+    ("alpha_seq.Step.next_pc", (state(pc=(1 << 63) - 4),), 1 << 63),
+    ("alpha_values.Op.features", (("One",),), 1), ("alpha_values.Op.features", (("Two",),), 5),
+    *(("alpha_token.Bytes.goes_on_label", (byte,), wanted)
+      for texts, wanted in ((b"azAZ09_.", True), (b"-/:@[^`{", False)) for byte in texts),
     ("alpha_imprecise.ChosenRun.advance_chosen_run", (TWO_WORDS, waiting(0, 2_000)), EXECUTED),
     ("alpha_imprecise.ChosenRun.advance_chosen_run", (TWO_WORDS, waiting(1_024, 7)), REPORTED),
     *(("alpha_replay.Replay.ending_by", (end,), end)
@@ -175,6 +180,7 @@ WORKED = [
     *(("alpha_replay.Compared.first_difference", arguments, wanted) for arguments, wanted in (
         ((7, (9, 2), (9, 3)), some(8)), ((7, (9, 2), (9, 2)), NONE), ((7, (9,), (9, 3)), some(8)),
         ((7, (9, 2), (9,)), some(8)), ((7, (4,), (9,)), some(7)))),
+    ("alpha_replay.Moves.may_add", (NONE, ("Waits", True, 5)), False),
     *(("alpha_replay.Moves.may_add", (NONE, move), True)
       for move in (("One",), ("Trips", 5), ("Waits", False, 5), ("Reports",))),
     # With nothing pending no word waits, and no report follows; while a trap is pending nothing else does.

@@ -48,11 +48,15 @@ SAME = {
     "alpha_imprecise:triggered: 0 becomes 1": PLACED,
     "alpha_imprecise:imprecise: 0 becomes 1": STARTS,
     "alpha_replay:run_fault: arguments 2 and 3 change places": FIRST,
-    "alpha_request:is_given Some: arguments 1 and 2 change places": ALIKE,
+    **{f"{name}: arguments 1 and 2 change places{n}": ALIKE
+       for name in ("alpha_request:is_given Some", "alpha_request:name_of", "alpha_debug:command_without_step",
+                    "alpha_debug:command_alone", "alpha_debug:with_number", "alpha_debug:with_range")
+       for n in ("", *(f" ({n})" for n in range(2, 13)))},
     "alpha_shadow:ExposedIn below: ◌<◌ becomes ◌≤◌": BEHIND,
     "alpha_shadow:Holds SameDestination: part 2 is left out": ALONE,
-    **{f"alpha_table:{one}_in: 25 becomes 26": EVEN for one in ("fetch", "jump", "misc", "pal")},
-    **{f"alpha_table:{one}_in: 31 becomes 30": BRANCH for one in ("fetch", "jump", "misc")},
+    **{f"alpha_table:{one}_{of}: 25 becomes 26": EVEN for one in ("fetch", "jump", "misc", "pal")
+       for of in ("in", "form")},
+    **{f"alpha_table:{one}_{of}: 31 becomes 30": BRANCH for one in ("fetch", "jump", "misc") for of in ("in", "form")},
     "alpha_table:pal_in: 26 becomes 25": NUMBER,
     **{f"alpha_values:result_of {op}: w32 becomes w64 ({n})": LOW for op in LONGWORDS for n in (2, 3)},
     **{f"alpha_values:result_of {op}: 8 becomes 9": BYTES for op in ("Extql", "Extqh", "Insql", "Insqh", "Mskql")},

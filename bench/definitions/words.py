@@ -92,6 +92,8 @@ class Words:
         found = d("alpha_table.Words.class_in")(number)
         if found != wanted:
             return f"{number:08x} is {found}, and {wanted} is wanted"
+        if (d("alpha_table.Decoded.decoded")(number) == NONE) != (wanted == NONE):
+            return f"{number:08x} of {found} is decoded otherwise"
         if columns is None:
             return ""
         return self.columns(d, found, columns) or self.level(d, number, found)
