@@ -31,6 +31,11 @@ def put(before, now):
     return record(old=some((1,)), new=some((1, 2)), before=before, now=now)
 
 
+def accessing(displacement, size, clears=False):
+    """An access by register 5."""
+    return record(base=5, disp=displacement, bytes=size, clears=clears)
+
+
 def ended_late(drawn_words):
     """A run of the imprecise machine by so many words, which the program ended."""
     return record(run=record(at=record(last_event=("Precisely", ("Ends", ("Exit", 0)))), drawn=drawn_words))
@@ -160,6 +165,11 @@ WORKED = [
     ("alpha_imprecise.ChosenRun.lost_trap", (("Triggered", 5),), NONE),
     ("alpha_imprecise.ChosenRun.lost_trap", (("Reported", 8),), NONE),
     ("alpha_imprecise.Step.can_wait", (NONE, state()), False),
+    # By their displacements, their bytes, and whether low bits are cleared.
+    *(("alpha_table.Uses.AccessesMeet", (accessing(*one), accessing(*other)), wanted) for one, other, wanted in (
+        ((8, 8), (12, 4), True), ((12, 4), (8, 8), True), ((8, 8), (16, 4), False), ((16, 4), (8, 8), False),
+        ((8, 4), (4, 8), True), ((15, 8, True), (8, 1), True), ((16, 8, True), (8, 1), False),
+        ((8, 1), (15, 8, True), True), ((8, 1), (16, 8, True), False))),
     ("alpha_seq.Step.next_pc", (state(pc=MASK - 3),), 0),
     ("alpha_seq.Step.next_pc", (state(pc=(1 << 63) - 4),), 1 << 63),
     ("alpha_values.Op.features", (("One",),), 1), ("alpha_values.Op.features", (("Two",),), 5),

@@ -21,6 +21,7 @@ NUMBER = "bit 25 is the highest of the call's number, and no call has it"
 LOW = "the low 32 bits of a sum, a difference or a product are by the low 32 bits of the sources alone"
 BYTES = "a register has eight bytes, and a mask eight bits"
 STARTS = "with nothing pending no count of words since a trigger is looked at, and the next step sets it"
+FORMS = "no word has two forms, so the order in which they are tried is the same"
 ALIKE = "of two texts that are compared none comes first"
 FIRST = "the first difference of two lists is that of the second and the first one"
 # The longword operations, whose sources may be read as quadwords.
@@ -57,6 +58,8 @@ SAME = {
     **{f"alpha_table:{one}_{of}: 25 becomes 26": EVEN for one in ("fetch", "jump", "misc", "pal")
        for of in ("in", "form")},
     **{f"alpha_table:{one}_{of}: 31 becomes 30": BRANCH for one in ("fetch", "jump", "misc") for of in ("in", "form")},
+    **{f"alpha_table:{name}: arguments 1 and 2 change places{n}": FORMS
+       for name in ("class_in", "decoded") for n in ("", *(f" ({n})" for n in range(2, 7)))},
     "alpha_table:pal_in: 26 becomes 25": NUMBER,
     **{f"alpha_values:result_of {op}: w32 becomes w64 ({n})": LOW for op in LONGWORDS for n in (2, 3)},
     **{f"alpha_values:result_of {op}: 8 becomes 9": BYTES for op in ("Extql", "Extqh", "Insql", "Insqh", "Mskql")},
