@@ -165,6 +165,10 @@ WORKED = [
     ("alpha_imprecise.ChosenRun.lost_trap", (("Triggered", 5),), NONE),
     ("alpha_imprecise.ChosenRun.lost_trap", (("Reported", 8),), NONE),
     ("alpha_imprecise.Step.can_wait", (NONE, state()), False),
+    ("alpha_table.Uses.uses", (NONE, 1), False),
+    *(("alpha_token.Tokens.mark", (ord(byte),), some((name,))) for byte, name in zip(
+        ",():+-", ("Comma", "Open", "Close", "Colon", "Plus", "Minus"))),
+    *(("alpha_token.Tokens.mark", (ord(byte),), NONE) for byte in "*'./9;"),
     # By their displacements, their bytes, and whether low bits are cleared.
     *(("alpha_table.Uses.AccessesMeet", (accessing(*one), accessing(*other)), wanted) for one, other, wanted in (
         ((8, 8), (12, 4), True), ((12, 4), (8, 8), True), ((8, 8), (16, 4), False), ((16, 4), (8, 8), False),
