@@ -1,5 +1,5 @@
 """Faults of that emulator which few programs show: numbers of calls, bytes that a text has otherwise, addresses of 30
-bits, words into $31, and regions around others."""
+bits, words into $31, regions around others, and long runs."""
 from .faults import Fault
 
 CALL = "            if (m.reg[0] == 1) {"
@@ -52,6 +52,10 @@ def of_flags():
         yield Fault(f"flag-31-{name}", "runs", f"a word like `{name}` into $31 clears the lock flag", EXECUTED,
                     EXECUTED.replace("4;\n}", f"4;\n    if ({test})\n        m.is_locked = 0;\n}}"),
                     "answers/values-flags")
+    for name, test in (("stack", "w->kind == STORE && w->rb == 30"), ("code", "w->kind == LOAD && w->rb == 27")):
+        yield Fault(f"flag-by-{name}", "runs", f"an access by the register that begins at the {name} clears the flag",
+                    EXECUTED, EXECUTED.replace("4;\n}", f"4;\n    if ({test})\n        m.is_locked = 0;\n}}"),
+                    "answers/values-flags")
     yield Fault("flag-31-br", "runs", "`br` with $31 clears the lock flag", TURNED,
                 TURNED.replace("\n}", "\n    if (w->opcode == 0x30 && w->ra == 31)\n        m.is_locked = 0;\n}"),
                 "answers/values-flags")
@@ -68,8 +72,29 @@ def of_regions():
                     f"({text})", "images.beside")
 
 
+def of_runs():
+    """Long runs, and what a trigger left."""
+    counting = "static void run_steps(u64 steps)\n{\n"
+    for most in (65_536, 131_072, 262_144):
+        yield Fault(f"steps-{most}", "runs", f"of more than 100,000 steps {most:,} are made", counting,
+                    f"{counting}    steps = steps > 100000 ? {most} : steps;\n", "steps.counts")
+    asked = "static void call_system(void)\n{\n"
+    yield Fault("calls-1000", "runs", "a thousand calls may be made", asked,
+                f"{asked}    static int calls;\n    if (++calls > 1000)\n        m.reg[0] = 9;\n", "calls-numbers")
+    left = "    execute(&w, &value);\n}\n\nstatic int can_wait"
+    for name, number in (("wrap", 0), ("saturate", 1), ("stop", 2)):
+        yield Fault(f"trigger-long-{name}", "late", f"a trigger of 32 bits leaves them alone, by {name}", left,
+                    f"    if (is_long(&w) && m.completion == {number})\n        value = longword(value);\n{left}",
+                    "late-seen")
+
+
 def faults():
-    for part in (of_calls, of_addresses, of_flags, of_regions):
+    for part in (of_calls, of_addresses, of_flags, of_regions, of_runs):
         yield from part()
+    said = "    m.completion = (enum completion)file.at[8], notes_overflows = 0;"
+    yield Fault("follow-stop-wraps", "following",
+                "a journal that says stop, and no overflow as its end, goes on by wrap", said,
+                f"{said}\n    if (m.completion == STOP && file.at[9] != OVERFLOW)\n        m.completion = WRAP;",
+                "pending.says-stop")
     yield Fault("follow-units-waits", "following", "Waits count among the units of a journal", UNITS,
                 UNITS.replace("kind == TRIGGER", "kind != REPORT"), "pending.most-units")

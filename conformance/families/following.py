@@ -175,6 +175,10 @@ def pending():
     refused("units-short", "a Units that ends before the trigger",
             of_items(lambda items: [("units", items[0][1] - 1), *items[1:]]), "norun kind 1 at 1")
     refused("no-end", "nothing is pending, and the journal ends by none at its exit", ending("none", 0, 0), NO_END)
+    refused("says-stop", "a run by wrap whose journal says stop: the first report ends it",
+            lambda kept: put(kept.spelled(), 8, b"\2"), "norun kind 1 at 7")
+    refused("says-saturate", "a run by wrap whose journal says saturate: $3 of the output is otherwise",
+            lambda kept: put(kept.spelled(), 8, b"\1"), "norun kind 2 at 88")
     refused("pending", "the items end while a trap is pending, and the run doesn't end",
             lambda kept: ending("none", 0, 0)(of_items(lambda items: items[:2])(kept)), None)
     made.rows[-1] = made.rows[-1]._replace(answer="norun kind 2 at 0")

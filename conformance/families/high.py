@@ -90,5 +90,19 @@ def numbers():
     return made
 
 
+def seen():
+    """What the trigger left, as a branch behind it sees it: the place of the lost trap tells which way it went."""
+    made = Blocks("late-seen", "A branch by what a trigger left, which decides where its trap is lost.")
+    for name, (first, second) in late.OVERFLOWING.items():
+        for branch in late.BRANCHES:
+            label = f"{name.replace('/', '_')}_{branch}"
+            made.add(label, [f"{name} $4,$6,$5", f"{branch} $5,.+12", "nop", "trapb", "trapb"])
+            for drawn in (1 << 31, 1 << 32, 1 << 63 | 1, 0xFFFFFFFF, 0):
+                made.late(f"{label.replace('_', '-')}-{drawn:x}", label,
+                          f"`{branch}` by what the trigger `{name}` left, {drawn:#x}", {4: first, 6: second},
+                          [drawn, *waits((5, 0), (6, 0))], late.ALL if drawn == 1 << 31 else ("wrap",))
+    return made
+
+
 def families():
-    return [high(), texts(), numbers()]
+    return [high(), texts(), numbers(), seen()]

@@ -92,6 +92,7 @@ def bases():
         yield f"the memory behind {name} $3", ["stq $1,0($9)", f"{name} $3,0($9)", "ldq $3,0($9)"]
         yield f"the memory behind {name} $31", ["stq $1,0($9)", f"{name} $31,0($9)", "ldq $3,0($9)"]
         yield f"the memory behind {name} $9 over its own base", ["stq $1,0($9)", f"{name} $9,0($9)", "ldq $3,0($9)"]
+        yield f"the stack behind {name} $31", ["stq $1,-8($30)", f"{name} $31,-8($30)", "ldq $3,-8($30)"]
     for name in late.LOADS:
         yield f"{name} $31,0($9)", [f"{name} $31,0($9)", "bis $31,$31,$3"]
     for name in ("br", "bsr"):
@@ -127,6 +128,9 @@ def flags(base="$9"):
             line = f"{name} {'$1' if name in late.STORES else '$5'},{at}({base})"
             yield (f"stq_c behind {line}, which ldq_l had",
                    [f"ldq_l $5,{at}({base})", line, "lda $3,7($31)", f"stq_c $3,{at}({base})"])
+    for name in (*late.STORES[:5], *late.LOADS[:5]):
+        line = f"{name} $1,-8($30)" if name in late.STORES else f"{name} $4,0($27)"
+        yield f"stq_c behind {line}", [f"ldq_l $5,8({base})", line, "lda $3,7($31)", f"stq_c $3,0({base})"]
     for name, words in (("a write", ["lda $0,4($31)", "lda $16,1($31)", "clr $18"]),
                         ("a read", ["lda $0,3($31)", "clr $16", "clr $18"]),
                         ("a write elsewhere", ["lda $0,4($31)", "lda $16,2($31)"])):

@@ -224,6 +224,9 @@ def steps():
     made.add("faults", ["nop", "ldq $5,1($31)"])
     for number in (0, 1, 2, 6, *range(14, 26), 255, 256, 1 << 31, 1 << 32, (1 << 32) + 16, 1 << 63, MASK):
         made.run(f"few-{number}", "few", f"at most {number} steps", late.OVERFLOWS, steps=number)
+    made.add("counts", ["again:", "subq $4,1,$4", "bgt $4,again", "mov $5,$16", "lda $0,1($31)", "callsys"])
+    for number in (99_999, 131_072, 300_017, 300_018, 1_000_000):
+        made.run(f"counts-{number}", "counts", f"at most {number} steps of 300,018", {4: 150_000, 5: 9}, steps=number)
     for number in (15, 16, 17):
         made.run(f"stops-{number}", "stops", f"at most {number} steps, by `stop`: the one that ends is one of them",
                  late.OVERFLOWS, steps=number, completion="stop")

@@ -79,4 +79,11 @@ stops:
 faults:
         nop
         ldq $5,1($31)
+counts:
+again:
+        subq $4,1,$4
+        bgt $4,again
+        mov $5,$16
+        lda $0,1($31)
+        callsys
         .entry start

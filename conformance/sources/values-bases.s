@@ -2,16 +2,16 @@
 # ldbu $3,8($3); ldwu $3,8($3); ldl $3,8($3); ldq $3,8($3); ldq_u $3,8($3); ldl_l $3,8($3)
 # ldq_l $3,8($3); lda $3,8($3); ldah $3,8($3); stl_c $3,0($3) behind a locked load; stl_c $3,0($3) without one; the memory behind stl_c $3
 # the memory behind stl_c $31; stq_c $3,0($3) behind a locked load; stq_c $3,0($3) without one; the memory behind stq_c $3; the memory behind stq_c $31; the memory behind stb $3
-# the memory behind stb $31; the memory behind stb $9 over its own base; the memory behind stw $3; the memory behind stw $31; the memory behind stw $9 over its own base; the memory behind stl $3
-# the memory behind stl $31; the memory behind stl $9 over its own base; the memory behind stq $3; the memory behind stq $31; the memory behind stq $9 over its own base; the memory behind stq_u $3
-# the memory behind stq_u $31; the memory behind stq_u $9 over its own base; ldbu $31,0($9); ldwu $31,0($9); ldl $31,0($9); ldq $31,0($9)
-# ldq_u $31,0($9); ldl_l $31,0($9); ldq_l $31,0($9); br $3,.+4; br $31,.+4; bsr $3,.+4
-# bsr $31,.+4; jmp $3,($5) to the next word but one; jmp $3,($3) by the register that it sets; jmp $31,($5),8191; jsr $3,($5) to the next word but one; jsr $3,($3) by the register that it sets
-# jsr $31,($5),8191; ret $3,($5) to the next word but one; ret $3,($3) by the register that it sets; ret $31,($5),8191; jsr_coroutine $3,($5) to the next word but one; jsr_coroutine $3,($3) by the register that it sets
-# jsr_coroutine $31,($5),8191
+# the memory behind stb $31; the memory behind stb $9 over its own base; the stack behind stb $31; the memory behind stw $3; the memory behind stw $31; the memory behind stw $9 over its own base
+# the stack behind stw $31; the memory behind stl $3; the memory behind stl $31; the memory behind stl $9 over its own base; the stack behind stl $31; the memory behind stq $3
+# the memory behind stq $31; the memory behind stq $9 over its own base; the stack behind stq $31; the memory behind stq_u $3; the memory behind stq_u $31; the memory behind stq_u $9 over its own base
+# the stack behind stq_u $31; ldbu $31,0($9); ldwu $31,0($9); ldl $31,0($9); ldq $31,0($9); ldq_u $31,0($9)
+# ldl_l $31,0($9); ldq_l $31,0($9); br $3,.+4; br $31,.+4; bsr $3,.+4; bsr $31,.+4
+# jmp $3,($5) to the next word but one; jmp $3,($3) by the register that it sets; jmp $31,($5),8191; jsr $3,($5) to the next word but one; jsr $3,($3) by the register that it sets; jsr $31,($5),8191
+# ret $3,($5) to the next word but one; ret $3,($3) by the register that it sets; ret $31,($5),8191; jsr_coroutine $3,($5) to the next word but one; jsr_coroutine $3,($3) by the register that it sets; jsr_coroutine $31,($5),8191
         .level 2
         .segment 0x10000000
-        .zero 464
+        .zero 504
         .code
 start: ldah $9,0x1000($31)
 next: lda $0,3($31)
@@ -113,195 +113,220 @@ next: lda $0,3($31)
         ldq $3,0($9)
         stq $3,176($9)
         ldq $3,16($9)
-        stq $1,0($9)
-        stw $3,0($9)
-        ldq $3,0($9)
+        stq $1,-8($30)
+        stb $31,-8($30)
+        ldq $3,-8($30)
         stq $3,184($9)
         ldq $3,16($9)
         stq $1,0($9)
-        stw $31,0($9)
+        stw $3,0($9)
         ldq $3,0($9)
         stq $3,192($9)
         ldq $3,16($9)
         stq $1,0($9)
-        stw $9,0($9)
+        stw $31,0($9)
         ldq $3,0($9)
         stq $3,200($9)
         ldq $3,16($9)
         stq $1,0($9)
-        stl $3,0($9)
+        stw $9,0($9)
         ldq $3,0($9)
         stq $3,208($9)
         ldq $3,16($9)
-        stq $1,0($9)
-        stl $31,0($9)
-        ldq $3,0($9)
+        stq $1,-8($30)
+        stw $31,-8($30)
+        ldq $3,-8($30)
         stq $3,216($9)
         ldq $3,16($9)
         stq $1,0($9)
-        stl $9,0($9)
+        stl $3,0($9)
         ldq $3,0($9)
         stq $3,224($9)
         ldq $3,16($9)
         stq $1,0($9)
-        stq $3,0($9)
+        stl $31,0($9)
         ldq $3,0($9)
         stq $3,232($9)
         ldq $3,16($9)
         stq $1,0($9)
-        stq $31,0($9)
+        stl $9,0($9)
         ldq $3,0($9)
         stq $3,240($9)
         ldq $3,16($9)
-        stq $1,0($9)
-        stq $9,0($9)
-        ldq $3,0($9)
+        stq $1,-8($30)
+        stl $31,-8($30)
+        ldq $3,-8($30)
         stq $3,248($9)
         ldq $3,16($9)
         stq $1,0($9)
-        stq_u $3,0($9)
+        stq $3,0($9)
         ldq $3,0($9)
         stq $3,256($9)
         ldq $3,16($9)
         stq $1,0($9)
-        stq_u $31,0($9)
+        stq $31,0($9)
         ldq $3,0($9)
         stq $3,264($9)
         ldq $3,16($9)
         stq $1,0($9)
-        stq_u $9,0($9)
+        stq $9,0($9)
         ldq $3,0($9)
         stq $3,272($9)
         ldq $3,16($9)
-        ldbu $31,0($9)
-        bis $31,$31,$3
+        stq $1,-8($30)
+        stq $31,-8($30)
+        ldq $3,-8($30)
         stq $3,280($9)
         ldq $3,16($9)
-        ldwu $31,0($9)
-        bis $31,$31,$3
+        stq $1,0($9)
+        stq_u $3,0($9)
+        ldq $3,0($9)
         stq $3,288($9)
         ldq $3,16($9)
-        ldl $31,0($9)
-        bis $31,$31,$3
+        stq $1,0($9)
+        stq_u $31,0($9)
+        ldq $3,0($9)
         stq $3,296($9)
         ldq $3,16($9)
-        ldq $31,0($9)
-        bis $31,$31,$3
+        stq $1,0($9)
+        stq_u $9,0($9)
+        ldq $3,0($9)
         stq $3,304($9)
         ldq $3,16($9)
-        ldq_u $31,0($9)
-        bis $31,$31,$3
+        stq $1,-8($30)
+        stq_u $31,-8($30)
+        ldq $3,-8($30)
         stq $3,312($9)
         ldq $3,16($9)
-        ldl_l $31,0($9)
+        ldbu $31,0($9)
         bis $31,$31,$3
         stq $3,320($9)
         ldq $3,16($9)
-        ldq_l $31,0($9)
+        ldwu $31,0($9)
         bis $31,$31,$3
         stq $3,328($9)
         ldq $3,16($9)
-        br $3,.+4
+        ldl $31,0($9)
+        bis $31,$31,$3
         stq $3,336($9)
         ldq $3,16($9)
-        br $31,.+4
+        ldq $31,0($9)
         bis $31,$31,$3
         stq $3,344($9)
         ldq $3,16($9)
-        bsr $3,.+4
+        ldq_u $31,0($9)
+        bis $31,$31,$3
         stq $3,352($9)
+        ldq $3,16($9)
+        ldl_l $31,0($9)
+        bis $31,$31,$3
+        stq $3,360($9)
+        ldq $3,16($9)
+        ldq_l $31,0($9)
+        bis $31,$31,$3
+        stq $3,368($9)
+        ldq $3,16($9)
+        br $3,.+4
+        stq $3,376($9)
+        ldq $3,16($9)
+        br $31,.+4
+        bis $31,$31,$3
+        stq $3,384($9)
+        ldq $3,16($9)
+        bsr $3,.+4
+        stq $3,392($9)
         ldq $3,16($9)
         bsr $31,.+4
         bis $31,$31,$3
-        stq $3,360($9)
+        stq $3,400($9)
         ldq $3,16($9)
         br $5,.+4
         lda $5,16($5)
         jmp $3,($5)
         clr $3
         nop
-        stq $3,368($9)
+        stq $3,408($9)
         ldq $3,16($9)
         br $3,.+4
         lda $3,19($3)
         jmp $3,($3)
         clr $3
         nop
-        stq $3,376($9)
+        stq $3,416($9)
         ldq $3,16($9)
         br $5,.+4
         lda $5,16($5)
         jmp $31,($5),8191
         clr $3
         addq $31,$3,$3
-        stq $3,384($9)
+        stq $3,424($9)
         ldq $3,16($9)
         br $5,.+4
         lda $5,16($5)
         jsr $3,($5)
         clr $3
         nop
-        stq $3,392($9)
+        stq $3,432($9)
         ldq $3,16($9)
         br $3,.+4
         lda $3,19($3)
         jsr $3,($3)
         clr $3
         nop
-        stq $3,400($9)
+        stq $3,440($9)
         ldq $3,16($9)
         br $5,.+4
         lda $5,16($5)
         jsr $31,($5),8191
         clr $3
         addq $31,$3,$3
-        stq $3,408($9)
+        stq $3,448($9)
         ldq $3,16($9)
         br $5,.+4
         lda $5,16($5)
         ret $3,($5)
         clr $3
         nop
-        stq $3,416($9)
+        stq $3,456($9)
         ldq $3,16($9)
         br $3,.+4
         lda $3,19($3)
         ret $3,($3)
         clr $3
         nop
-        stq $3,424($9)
+        stq $3,464($9)
         ldq $3,16($9)
         br $5,.+4
         lda $5,16($5)
         ret $31,($5),8191
         clr $3
         addq $31,$3,$3
-        stq $3,432($9)
+        stq $3,472($9)
         ldq $3,16($9)
         br $5,.+4
         lda $5,16($5)
         jsr_coroutine $3,($5)
         clr $3
         nop
-        stq $3,440($9)
+        stq $3,480($9)
         ldq $3,16($9)
         br $3,.+4
         lda $3,19($3)
         jsr_coroutine $3,($3)
         clr $3
         nop
-        stq $3,448($9)
+        stq $3,488($9)
         ldq $3,16($9)
         br $5,.+4
         lda $5,16($5)
         jsr_coroutine $31,($5),8191
         clr $3
         addq $31,$3,$3
-        stq $3,456($9)
+        stq $3,496($9)
         lda $0,4($31)
         lda $16,1($31)
         lda $17,24($9)
-        lda $18,440($31)
+        lda $18,480($31)
         callsys
         br next
 end: clr $16
